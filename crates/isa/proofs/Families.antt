@@ -1,0 +1,288 @@
+-- Each family's word and operation, over the base of its row.
+-- `..-back`: the operation that a word of the row is passes every check, and its word is that word.
+-- `..-read`: a word that is written of an operation matches the row, and is that operation. Assumes nothing.
+use Prim.Native.Nat.{ℕ, zero, suc, _+_, _*_, _/_, _%_, _^_, _<_, _≤_}
+use mathlib.Core.Path.{_≡_, refl, sym, ap, _∙_, subst}
+use mathlib.Core.List.{List, [], _∷_}
+use mathlib.Core.Bool.{Bool, true, false, _&&_}
+use native.Mathlib.Omega.{arith}
+use native.Mathlib.Nat.{mod-lt}
+use borrow.Author.Tests.{le-leb, leb-true}
+use lib.Dec.{leb}
+use lib.ListN.{getD}
+use lib.Pow.{pow-pos}
+use Rattle.isa.specs.declared.types.Size.{Size}
+use Rattle.isa.specs.declared.types.Rotation.{Rotation}
+use Rattle.isa.specs.declared.types.Form.{Form}
+use Rattle.isa.specs.declared.types.Add.{Add}
+use Rattle.isa.specs.declared.types.Mul.{Mul}
+use Rattle.isa.specs.declared.types.MulIndexed.{MulIndexed}
+use Rattle.isa.specs.declared.types.ByElement.{ByElement}
+use Rattle.isa.specs.declared.types.Op.{Op}
+use Rattle.isa.specs.declared.types.Decoded.{Decoded}
+use Rattle.isa.specs.Field.{Field, Row, width, bits, fieldsOf, written}
+use Rattle.isa.specs.Table.{size, rot1, rot2, ZmAdd, ZmMul, Zdn, Zda, Zn, Rn, Rd, Rm, H, L, M, Q, addRow, mulRow, indexedRow, scalarRow, vectorRow, elementFields}
+use Rattle.isa.specs.Decode.{sizeOf, rotationOf, addRotationOf, vectorOf, addOf, mulOf, indexedOf, elementWith, elementOf}
+use Rattle.isa.specs.Encode.{Checks, sizeBits, rotationBits, addRotation, addRotationBits, halfOrSingle, bySize, addChecks, mulChecks, indexedChecks, formWritten, elementFieldsOf, elementChecks}
+use Rattle.isa.proofs.Fields.{sound, Of, Fit, and-left, and-right, fields-written, of-written}
+use Rattle.isa.proofs.Checks.{Passed}
+
+-- ---- the numbers of sizes and rotations
+
+size-bits-of : (n : ℕ) → n < 4 → sizeBits (sizeOf n) ≡ n
+size-bits-of zero h = refl
+size-bits-of (suc zero) h = refl
+size-bits-of (suc (suc zero)) h = refl
+size-bits-of (suc (suc (suc n))) h = omega arith
+
+size-of-bits : (z : Size) → sizeOf (sizeBits z) ≡ z
+size-of-bits Size.B = refl
+size-of-bits Size.H = refl
+size-of-bits Size.S = refl
+size-of-bits Size.D = refl
+
+size-lt : (z : Size) → sizeBits z < 4
+size-lt Size.B = omega arith
+size-lt Size.H = omega arith
+size-lt Size.S = omega arith
+size-lt Size.D = omega arith
+
+rotation-bits-of : (n : ℕ) → n < 4 → rotationBits (rotationOf n) ≡ n
+rotation-bits-of zero h = refl
+rotation-bits-of (suc zero) h = refl
+rotation-bits-of (suc (suc zero)) h = refl
+rotation-bits-of (suc (suc (suc n))) h = omega arith
+
+rotation-of-bits : (r : Rotation) → rotationOf (rotationBits r) ≡ r
+rotation-of-bits Rotation.R0 = refl
+rotation-of-bits Rotation.R90 = refl
+rotation-of-bits Rotation.R180 = refl
+rotation-of-bits Rotation.R270 = refl
+
+rotation-lt : (r : Rotation) → rotationBits r < 4
+rotation-lt Rotation.R0 = omega arith
+rotation-lt Rotation.R90 = omega arith
+rotation-lt Rotation.R180 = omega arith
+rotation-lt Rotation.R270 = omega arith
+
+add-rotation-has : (n : ℕ) → addRotation (addRotationOf n) ≡ true
+add-rotation-has zero = refl
+add-rotation-has (suc n) = refl
+
+add-rotation-bits-of : (n : ℕ) → n < 2 → addRotationBits (addRotationOf n) ≡ n
+add-rotation-bits-of zero h = refl
+add-rotation-bits-of (suc n) h = omega arith
+
+add-rotation-of-bits : (r : Rotation) → addRotation r ≡ true → addRotationOf (addRotationBits r) ≡ r
+add-rotation-of-bits Rotation.R0 h = cc
+add-rotation-of-bits Rotation.R90 h = refl
+add-rotation-of-bits Rotation.R180 h = cc
+add-rotation-of-bits Rotation.R270 h = refl
+
+add-rotation-lt : (r : Rotation) → addRotationBits r < 2
+add-rotation-lt Rotation.R0 = omega arith
+add-rotation-lt Rotation.R90 = omega arith
+add-rotation-lt Rotation.R180 = omega arith
+add-rotation-lt Rotation.R270 = omega arith
+
+-- ---- limits
+
+pub no-such : false ≡ true → ⊥
+no-such h = let z : _≡_ {A = ℕ} 0 1 = cc in omega arith
+
+and-true : (a b : Bool) → a ≡ true → b ≡ true → (a && b) ≡ true
+and-true a b p q = rw (p, q)
+
+-- a field's number is at most what its width allows
+field-le : (f : Field) (w limit : ℕ) → 2 ^ width f ≡ suc limit → leb (bits f w) limit ≡ true
+field-le f w limit e = le-leb (bits f w) limit (let h = mod-lt (w / 2 ^ f .low) (pow-pos (width f)) in omega arith)
+
+within : (x limit bound : ℕ) → bound ≡ suc limit → leb x limit ≡ true → x < bound
+within x limit bound e h = let l = leb-true x limit h in omega arith
+
+-- the second source within its limit, and two more registers
+pub record Registers (second limit n d : ℕ) : Type 0 where
+  pub second-in : leb second limit ≡ true
+  pub n-in : n < 32
+  pub d-in : d < 32
+
+pub registers-in : (second limit n d : ℕ) → (leb second limit && (leb n 31 && leb d 31)) ≡ true → Registers second limit n d
+registers-in second limit n d h =
+    let rest = and-right (leb second limit) (leb n 31 && leb d 31) h in
+    record {
+      second-in = and-left (leb second limit) (leb n 31 && leb d 31) h;
+      n-in = within n 31 32 refl (and-left (leb n 31) (leb d 31) rest);
+      d-in = within d 31 32 refl (and-right (leb n 31) (leb d 31) rest);
+    }
+
+-- ---- CADD, SQCADD
+
+abbrev addFrom : List ℕ → Add
+addFrom vs = record { size = sizeOf (getD vs 0 0); rot = addRotationOf (getD vs 1 0); zm = getD vs 2 0; zdn = getD vs 3 0 }
+
+module _ (base w : ℕ) where
+  pub add-back : Of (addRow base) w → Passed (addChecks (addRow base) (addOf w)) w
+  add-back e = record {
+    size = refl;
+    rotation = add-rotation-has (bits rot1 w);
+    registers = and-true _ _ (field-le ZmAdd w 31 refl) (field-le Zdn w 31 refl);
+    index = refl;
+    word = ap (written (addRow base)) (λ k. size-bits-of (bits size w) (omega arith) k ∷ add-rotation-bits-of (bits rot1 w) (omega arith) k ∷ bits ZmAdd w ∷ bits Zdn w ∷ []) ∙ sym e;
+  }
+
+  pub add-read : sound (addRow base) ≡ true → (a : Add) → Passed (addChecks (addRow base) a) w → Of (addRow base) w × (addOf w ≡ a)
+  add-read s a p =
+      let vs = sizeBits (a .size) ∷ addRotationBits (a .rot) ∷ a .zm ∷ a .zdn ∷ [] in
+      let fit : Fit (addRow base .fields) vs =
+      (size-lt (a .size), (add-rotation-lt (a .rot), (within (a .zm) 31 32 refl (and-left _ _ (p .registers)), (within (a .zdn) 31 32 refl (and-right (leb (a .zm) 31) _ (p .registers)), tt)))) in (
+        subst (Of (addRow base)) (p .word) (of-written (addRow base) s vs fit),
+        ap (λ (x : ℕ). addOf x) (sym (p .word)) ∙ ap addFrom (fields-written (addRow base) s vs fit)
+            ∙ (λ k. record { size = size-of-bits (a .size) k; rot = add-rotation-of-bits (a .rot) (p .rotation) k; zm = a .zm; zdn = a .zdn }),
+      )
+
+-- ---- CMLA, SQRDCMLAH by vectors
+
+abbrev mulFrom : List ℕ → Mul
+mulFrom vs = record { size = sizeOf (getD vs 0 0); rot = rotationOf (getD vs 2 0); zm = getD vs 1 0; zn = getD vs 3 0; zda = getD vs 4 0 }
+
+module _ (base w : ℕ) where
+  pub mul-back : Of (mulRow base) w → Passed (mulChecks (mulRow base) (mulOf w)) w
+  mul-back e = record {
+    size = refl;
+    rotation = refl;
+    registers = and-true _ _ (field-le ZmMul w 31 refl) (and-true _ _ (field-le Zn w 31 refl) (field-le Zda w 31 refl));
+    index = refl;
+    word = ap (written (mulRow base)) (λ k. size-bits-of (bits size w) (omega arith) k ∷ bits ZmMul w ∷ rotation-bits-of (bits rot2 w) (omega arith) k ∷ bits Zn w ∷ bits Zda w ∷ []) ∙ sym e;
+  }
+
+  pub mul-read : sound (mulRow base) ≡ true → (a : Mul) → Passed (mulChecks (mulRow base) a) w → Of (mulRow base) w × (mulOf w ≡ a)
+  mul-read s a p =
+      let vs = sizeBits (a .size) ∷ a .zm ∷ rotationBits (a .rot) ∷ a .zn ∷ a .zda ∷ [] in
+      let r = registers-in (a .zm) 31 (a .zn) (a .zda) (p .registers) in
+      let fit : Fit (mulRow base .fields) vs = (size-lt (a .size), (within (a .zm) 31 32 refl (r .second-in), (rotation-lt (a .rot), (r .n-in, (r .d-in, tt))))) in (
+        subst (Of (mulRow base)) (p .word) (of-written (mulRow base) s vs fit),
+        ap (λ (x : ℕ). mulOf x) (sym (p .word)) ∙ ap mulFrom (fields-written (mulRow base) s vs fit)
+            ∙ (λ k. record { size = size-of-bits (a .size) k; rot = rotation-of-bits (a .rot) k; zm = a .zm; zn = a .zn; zda = a .zda }),
+      )
+
+-- ---- indexed, over the size: the places of the index and of the second source, and their limits
+
+abbrev indexedFrom : Size → List ℕ → MulIndexed
+indexedFrom z vs = record { size = z; rot = rotationOf (getD vs 2 0); zm = getD vs 1 0; index = getD vs 0 0; zn = getD vs 3 0; zda = getD vs 4 0 }
+
+-- what a size means to an indexed family
+pub record IndexedAt (h s : Row) (z : Size) (index zm : Field) (base : ℕ) : Type 0 where
+  pub has : halfOrSingle z ≡ true
+  pub row : bySize h s z ≡ indexedRow index zm base
+  pub limit : 2 ^ width zm ≡ suc (bySize 7 15 z)
+  pub last : 2 ^ width index ≡ suc (bySize 3 1 z)
+  pub whole : sound (indexedRow index zm base) ≡ true
+
+module _ (h s : Row) (z : Size) (index zm : Field) (base w : ℕ) (at : IndexedAt h s z index zm base) where
+  pub indexed-back : Of (indexedRow index zm base) w → Passed (indexedChecks h s (indexedOf z index zm w)) w
+  indexed-back e = record {
+    size = at .has;
+    rotation = refl;
+    registers = and-true _ _ (field-le zm w (bySize 7 15 z) (at .limit)) (and-true _ _ (field-le Zn w 31 refl) (field-le Zda w 31 refl));
+    index = field-le index w (bySize 3 1 z) (at .last);
+    word = ap (λ (r : Row). written r (bits index w ∷ bits zm w ∷ rotationBits (rotationOf (bits rot2 w)) ∷ bits Zn w ∷ bits Zda w ∷ [])) (at .row)
+        ∙ ap (written (indexedRow index zm base)) (λ k. bits index w ∷ bits zm w ∷ rotation-bits-of (bits rot2 w) (omega arith) k ∷ bits Zn w ∷ bits Zda w ∷ []) ∙ sym e;
+  }
+
+  -- of an operation of that size, given by its fields
+  pub indexed-read : (a : MulIndexed) → z ≡ a .size → Passed (indexedChecks h s a) w → Of (indexedRow index zm base) w × (indexedOf z index zm w ≡ a)
+  indexed-read a e p =
+      let vs = a .index ∷ a .zm ∷ rotationBits (a .rot) ∷ a .zn ∷ a .zda ∷ [] in
+      let r = registers-in (a .zm) (bySize 7 15 (a .size)) (a .zn) (a .zda) (p .registers) in
+      let second : leb (a .zm) (bySize 7 15 z) ≡ true = rw e (r .second-in) in
+      let place : leb (a .index) (bySize 3 1 z) ≡ true = rw e (p .index) in
+      let fit : Fit (indexedRow index zm base .fields) vs =
+      (within (a .index) _ _ (at .last) place, (within (a .zm) _ _ (at .limit) second, (rotation-lt (a .rot), (r .n-in, (r .d-in, tt))))) in
+      let word : written (indexedRow index zm base) vs ≡ w =
+      ap (λ (r : Row). written r vs) (sym (at .row)) ∙ ap (λ (x : Size). written (bySize h s x) vs) e ∙ p .word in (
+        subst (Of (indexedRow index zm base)) word (of-written (indexedRow index zm base) (at .whole) vs fit),
+        ap (λ (x : ℕ). indexedOf z index zm x) (sym word) ∙ ap (indexedFrom z) (fields-written (indexedRow index zm base) (at .whole) vs fit)
+            ∙ (λ k. record { size = e k; rot = rotation-of-bits (a .rot) k; zm = a .zm; index = a .index; zn = a .zn; zda = a .zda }),
+      )
+
+-- ---- by element
+
+-- the parts of an index and of a register
+index3 : (h l m : ℕ) → h < 2 → l < 2 → m < 2 → ((h * 4 + l * 2 + m) / 2 % 2 ≡ l) × ((h * 4 + l * 2 + m) % 2 ≡ m) × ((h * 4 + l * 2 + m) / 4 ≡ h)
+index3 h l m hh hl hm = (omega arith, omega arith, omega arith)
+
+index2 : (h l : ℕ) → h < 2 → l < 2 → ((h * 2 + l) % 2 ≡ l) × ((h * 2 + l) / 2 ≡ h)
+index2 h l hh hl = (omega arith, omega arith)
+
+register5 : (m r : ℕ) → m < 2 → r < 16 → ((m * 16 + r) / 16 ≡ m) × ((m * 16 + r) % 16 ≡ r)
+register5 m r hm hr = (omega arith, omega arith)
+
+-- the operation of an H word and of an S word
+abbrev pub elementH : Form → ℕ → ByElement
+elementH f w = elementWith f Size.H (bits Rm w) (bits H w * 4 + bits L w * 2 + bits M w) w
+
+abbrev pub elementS : Form → ℕ → ByElement
+elementS f w = elementWith f Size.S (bits M w * 16 + bits Rm w) (bits H w * 2 + bits L w) w
+
+module _ (scalar vector : ℕ) (f : Form) (w : ℕ) (e : w ≡ formWritten (scalarRow scalar) (vectorRow vector) f (fieldsOf elementFields w)) where
+  pub elementH-back : bits size w ≡ 1 → Passed (elementChecks (scalarRow scalar) (vectorRow vector) (elementH f w)) w
+  elementH-back s =
+      let i = index3 (bits H w) (bits L w) (bits M w) (omega arith) (omega arith) (omega arith) in
+      record {
+        size = refl;
+        rotation = refl;
+        registers = and-true _ _ (field-le Rm w 15 refl) (and-true _ _ (field-le Rn w 31 refl) (field-le Rd w 31 refl));
+        index = le-leb (bits H w * 4 + bits L w * 2 + bits M w) 7 (omega arith);
+        word = ap (formWritten (scalarRow scalar) (vectorRow vector) f) (λ k. sym s k ∷ i .0 k ∷ i .1 k ∷ bits Rm w ∷ i .2 k ∷ bits Rn w ∷ bits Rd w ∷ []) ∙ sym e;
+      }
+
+  pub elementS-back : bits size w ≡ 2 → Passed (elementChecks (scalarRow scalar) (vectorRow vector) (elementS f w)) w
+  elementS-back s =
+      let i = index2 (bits H w) (bits L w) (omega arith) (omega arith) in
+      let r = register5 (bits M w) (bits Rm w) (omega arith) (omega arith) in
+      record {
+        size = refl;
+        rotation = refl;
+        registers = and-true _ _ (le-leb (bits M w * 16 + bits Rm w) 31 (omega arith)) (and-true _ _ (field-le Rn w 31 refl) (field-le Rd w 31 refl));
+        index = le-leb (bits H w * 2 + bits L w) 3 (omega arith);
+        word = ap (formWritten (scalarRow scalar) (vectorRow vector) f) (λ k. sym s k ∷ i .0 k ∷ r .0 k ∷ r .1 k ∷ i .1 k ∷ bits Rn w ∷ bits Rd w ∷ []) ∙ sym e;
+      }
+
+abbrev elementHFrom : Form → List ℕ → ByElement
+elementHFrom f vs = record { form = f; size = Size.H; rm = getD vs 3 0; index = getD vs 4 0 * 4 + getD vs 1 0 * 2 + getD vs 2 0; rn = getD vs 5 0; rd = getD vs 6 0 }
+
+abbrev elementSFrom : Form → List ℕ → ByElement
+elementSFrom f vs = record { form = f; size = Size.S; rm = getD vs 2 0 * 16 + getD vs 3 0; index = getD vs 4 0 * 2 + getD vs 1 0; rn = getD vs 5 0; rd = getD vs 6 0 }
+
+head-is : (n : ℕ) (ns vs : List ℕ) → vs ≡ n ∷ ns → getD vs 0 0 ≡ n
+head-is n ns vs e = ap (λ (xs : List ℕ). getD xs 0 0) e
+
+module _ (mk : ByElement → Op) (f : Form) (rm index rn rd : ℕ) where
+  -- a word with the fields of an operation of size z is that operation
+  pub element-is : (z : Size) (w : ℕ) → halfOrSingle z ≡ true → fieldsOf elementFields w ≡ elementFieldsOf (record { form = f; size = z; rm = rm; index = index; rn = rn; rd = rd }) → elementOf mk f w (sizeOf (bits size w)) ≡ Decoded.Operation (mk (record { form = f; size = z; rm = rm; index = index; rn = rn; rd = rd }))
+  element-is Size.B w h e = cc
+  element-is Size.H w h e =
+      let i : index / 4 * 4 + index / 2 % 2 * 2 + index % 2 ≡ index = omega arith in
+      ap (λ (n : ℕ). elementOf mk f w (sizeOf n)) (head-is 1 _ (fieldsOf elementFields w) e)
+      ∙ ap (λ (vs : List ℕ). Decoded.Operation (mk (elementHFrom f vs))) e
+      ∙ (λ k. Decoded.Operation (mk (record { form = f; size = Size.H; rm = rm; index = i k; rn = rn; rd = rd })))
+  element-is Size.S w h e =
+      let i : index / 2 * 2 + index % 2 ≡ index = omega arith in
+      let r : rm / 16 * 16 + rm % 16 ≡ rm = omega arith in
+      ap (λ (n : ℕ). elementOf mk f w (sizeOf n)) (head-is 2 _ (fieldsOf elementFields w) e)
+      ∙ ap (λ (vs : List ℕ). Decoded.Operation (mk (elementSFrom f vs))) e
+      ∙ (λ k. Decoded.Operation (mk (record { form = f; size = Size.S; rm = r k; index = i k; rn = rn; rd = rd })))
+  element-is Size.D w h e = cc
+
+  -- what is written of it fits the fields
+  pub element-fits : (z : Size) → halfOrSingle z ≡ true → leb rm (bySize 15 31 z) ≡ true → rn < 32 → rd < 32 → leb index (bySize 7 3 z) ≡ true → Fit elementFields (elementFieldsOf (record { form = f; size = z; rm = rm; index = index; rn = rn; rd = rd }))
+  element-fits Size.B h hm hn hd hi = absurd (no-such h)
+  element-fits Size.H h hm hn hd hi =
+      let m = leb-true rm 15 hm in
+      let i = leb-true index 7 hi in
+      (omega arith, (omega arith, (omega arith, (omega arith, (omega arith, (hn, (hd, tt)))))))
+  element-fits Size.S h hm hn hd hi =
+      let m = leb-true rm 31 hm in
+      let i = leb-true index 3 hi in
+      (omega arith, (omega arith, (omega arith, (omega arith, (omega arith, (hn, (hd, tt)))))))
+  element-fits Size.D h hm hn hd hi = absurd (no-such h)

@@ -1,0 +1,9 @@
+pub mod Fields
+pub mod Apart
+pub mod Table
+pub mod Checks
+pub mod Families
+pub mod RoundTrip
+pub mod Valid
+pub mod Exact
+pub mod Cases

@@ -1,0 +1,32 @@
+-- Which words are operations, reserved and outside, said by the rows alone.
+use Prim.Native.Nat.{ℕ}
+use mathlib.Core.Path.{_≡_}
+use mathlib.Core.List.{List, [], _∷_, _++_}
+use mathlib.Core.Bool.{true}
+use mathlib.Core.Logic.{_⊎_}
+use Rattle.isa.specs.Field.{Row, matches, bits}
+use Rattle.isa.specs.Table.{size, cadd, sqcadd, cmla, sqrdcmlah, cmlaH, cmlaS, sqrdcmlahH, sqrdcmlahS, sqrdmlahVector, sqrdmlahScalar, sqrdmlshVector, sqrdmlshScalar}
+
+-- the word matches some row of a list
+abbrev pub MatchesSome : List Row → ℕ → Type 0
+MatchesSome [] w = ⊥
+MatchesSome (r ∷ rs) w = (matches r w ≡ true) ⊎ MatchesSome rs w
+
+-- the rows of the SVE2 families, which have every word that matches
+abbrev pub sveRows : List Row
+sveRows = cadd ∷ sqcadd ∷ cmla ∷ sqrdcmlah ∷ cmlaH ∷ cmlaS ∷ sqrdcmlahH ∷ sqrdcmlahS ∷ []
+
+-- the rows of the Advanced SIMD families, in which only H and S exist
+abbrev pub elementRows : List Row
+elementRows = sqrdmlahVector ∷ sqrdmlahScalar ∷ sqrdmlshVector ∷ sqrdmlshScalar ∷ []
+
+-- an operation of our families
+abbrev pub AllowedWord : ℕ → Type 0
+AllowedWord w = MatchesSome sveRows w ⊎ (MatchesSome elementRows w × ((bits size w ≡ 1) ⊎ (bits size w ≡ 2)))
+
+-- the pages' UNDEFINED
+abbrev pub ReservedWord : ℕ → Type 0
+ReservedWord w = MatchesSome elementRows w × ((bits size w ≡ 0) ⊎ (bits size w ≡ 3))
+
+abbrev pub OutsideWord : ℕ → Type 0
+OutsideWord w = MatchesSome (sveRows ++ elementRows) w → ⊥
