@@ -15,7 +15,7 @@ use Rattle.isa.specs.Table.{size, Q}
 use Rattle.isa.specs.Decode.{Entry, table, decodeOf, elementOf, vectorOf, sizeOf}
 use Rattle.isa.specs.Allowed.{MatchesSome, sveRows, elementRows, AllowedWord, ReservedWord, OutsideWord}
 use Rattle.isa.proofs.Fields.{Of}
-use Rattle.isa.proofs.Table.{NoRow, row-read, by-row, no-row-outside}
+use Rattle.isa.proofs.Table.{_⨾_, NoRow, row-read, by-row, no-row-outside}
 
 -- ---- answers that differ
 
@@ -84,83 +84,45 @@ module _ (w : ℕ) where
   operation-only : (op : Op) → decodeOf w ≡ Decoded.Operation op → AllowedWord w
   unfolding decodeOf
   operation-only op =
-      by-row table w (Decoded.Operation op) (AllowedWord w) (
-        (λ e k. inl (some-at 0 sveRows w e)),
-        (
-          (λ e k. inl (some-at 1 sveRows w e)),
-          (
-            (λ e k. inl (some-at 2 sveRows w e)),
-            (
-              (λ e k. inl (some-at 3 sveRows w e)),
-              (
-                (λ e k. inl (some-at 4 sveRows w e)),
-                (
-                  (λ e k. inl (some-at 5 sveRows w e)),
-                  (
-                    (λ e k. inl (some-at 6 sveRows w e)),
-                    (
-                      (λ e k. inl (some-at 7 sveRows w e)),
-                      (
-                        (λ e k. inr (some-at 0 elementRows w e, element-operation Op.Sqrdmlah _ w (bits size w) op k)),
-                        (
-                          (λ e k. inr (some-at 1 elementRows w e, element-operation Op.Sqrdmlah _ w (bits size w) op k)),
-                          (
-                            (λ e k. inr (some-at 2 elementRows w e, element-operation Op.Sqrdmlsh _ w (bits size w) op k)),
-                            ((λ e k. inr (some-at 3 elementRows w e, element-operation Op.Sqrdmlsh _ w (bits size w) op k)), tt),
-                          ),
-                        ),
-                      ),
-                    ),
-                  ),
-                ),
-              ),
-            ),
-          ),
-        ),
-      )
+      by-row table w (Decoded.Operation op) (AllowedWord w)
+      (
+      (λ e k. inl (some-at 0 sveRows w e)) ⨾
+      (λ e k. inl (some-at 1 sveRows w e)) ⨾
+      (λ e k. inl (some-at 2 sveRows w e)) ⨾
+      (λ e k. inl (some-at 3 sveRows w e)) ⨾
+      (λ e k. inl (some-at 4 sveRows w e)) ⨾
+      (λ e k. inl (some-at 5 sveRows w e)) ⨾
+      (λ e k. inl (some-at 6 sveRows w e)) ⨾
+      (λ e k. inl (some-at 7 sveRows w e)) ⨾
+      (λ e k. inr (some-at 0 elementRows w e, element-operation Op.Sqrdmlah _ w (bits size w) op k)) ⨾
+      (λ e k. inr (some-at 1 elementRows w e, element-operation Op.Sqrdmlah _ w (bits size w) op k)) ⨾
+      (λ e k. inr (some-at 2 elementRows w e, element-operation Op.Sqrdmlsh _ w (bits size w) op k)) ⨾
+      (λ e k. inr (some-at 3 elementRows w e, element-operation Op.Sqrdmlsh _ w (bits size w) op k)) ⨾ tt)
       (λ none k. absurd (operation-outside op (sym k)))
 
   -- the four by-element rows: what the word decodes to, whatever the size is
   element-answer : (G : Type 0) → ((mk : ByElement → Op) (f : Form) → decodeOf w ≡ elementOf mk f w (sizeOf (bits size w)) → G) → MatchesSome elementRows w → G
   element-answer G k =
-      by-some elementRows w G (
-        (λ e. k Op.Sqrdmlah (vectorOf (bits Q w)) (row-read w 8 e)),
-        (
-          (λ e. k Op.Sqrdmlah Form.Scalar (row-read w 9 e)),
-          (
-            (λ e. k Op.Sqrdmlsh (vectorOf (bits Q w)) (row-read w 10 e)),
-            ((λ e. k Op.Sqrdmlsh Form.Scalar (row-read w 11 e)), tt),
-          ),
-        ),
-      )
+      by-some elementRows w G
+      ((λ e. k Op.Sqrdmlah (vectorOf (bits Q w)) (row-read w 8 e)) ⨾
+      (λ e. k Op.Sqrdmlah Form.Scalar (row-read w 9 e)) ⨾
+      (λ e. k Op.Sqrdmlsh (vectorOf (bits Q w)) (row-read w 10 e)) ⨾
+      (λ e. k Op.Sqrdmlsh Form.Scalar (row-read w 11 e)) ⨾ tt)
 
   abbrev IsOperation : Type 0
   IsOperation = (op : Op) × (decodeOf w ≡ Decoded.Operation op)
 
   of-sve : MatchesSome sveRows w → IsOperation
   of-sve =
-      by-some sveRows w IsOperation (
-        (λ e. (_, row-read w 0 e)),
-        (
-          (λ e. (_, row-read w 1 e)),
-          (
-            (λ e. (_, row-read w 2 e)),
-            (
-              (λ e. (_, row-read w 3 e)),
-              (
-                (λ e. (_, row-read w 4 e)),
-                (
-                  (λ e. (_, row-read w 5 e)),
-                  (
-                    (λ e. (_, row-read w 6 e)),
-                    ((λ e. (_, row-read w 7 e)), tt),
-                  ),
-                ),
-              ),
-            ),
-          ),
-        ),
-      )
+      by-some sveRows w IsOperation
+      ((λ e. (_, row-read w 0 e)) ⨾
+      (λ e. (_, row-read w 1 e)) ⨾
+      (λ e. (_, row-read w 2 e)) ⨾
+      (λ e. (_, row-read w 3 e)) ⨾
+      (λ e. (_, row-read w 4 e)) ⨾
+      (λ e. (_, row-read w 5 e)) ⨾
+      (λ e. (_, row-read w 6 e)) ⨾
+      (λ e. (_, row-read w 7 e)) ⨾ tt)
 
   of-element : MatchesSome elementRows w → (bits size w ≡ 1) ⊎ (bits size w ≡ 2) → IsOperation
   of-element m s = element-answer IsOperation (λ mk f e. ⊎-elim (λ z. (_, e ∙ ap (λ (n : ℕ). elementOf mk f w (sizeOf n)) z)) (λ z. (_, e ∙ ap (λ (n : ℕ). elementOf mk f w (sizeOf n)) z)) s) m
@@ -171,40 +133,19 @@ module _ (w : ℕ) where
   reserved-only : decodeOf w ≡ Decoded.Reserved → ReservedWord w
   unfolding decodeOf
   reserved-only =
-      by-row table w Decoded.Reserved (ReservedWord w) (
-        (λ e k. absurd (operation-reserved _ k)),
-        (
-          (λ e k. absurd (operation-reserved _ k)),
-          (
-            (λ e k. absurd (operation-reserved _ k)),
-            (
-              (λ e k. absurd (operation-reserved _ k)),
-              (
-                (λ e k. absurd (operation-reserved _ k)),
-                (
-                  (λ e k. absurd (operation-reserved _ k)),
-                  (
-                    (λ e k. absurd (operation-reserved _ k)),
-                    (
-                      (λ e k. absurd (operation-reserved _ k)),
-                      (
-                        (λ e k. (some-at 0 elementRows w e, element-reserved Op.Sqrdmlah _ w (bits size w) (omega arith) k)),
-                        (
-                          (λ e k. (some-at 1 elementRows w e, element-reserved Op.Sqrdmlah _ w (bits size w) (omega arith) k)),
-                          (
-                            (λ e k. (some-at 2 elementRows w e, element-reserved Op.Sqrdmlsh _ w (bits size w) (omega arith) k)),
-                            ((λ e k. (some-at 3 elementRows w e, element-reserved Op.Sqrdmlsh _ w (bits size w) (omega arith) k)), tt),
-                          ),
-                        ),
-                      ),
-                    ),
-                  ),
-                ),
-              ),
-            ),
-          ),
-        ),
-      )
+      by-row table w Decoded.Reserved (ReservedWord w)
+      ((λ e k. absurd (operation-reserved _ k)) ⨾
+      (λ e k. absurd (operation-reserved _ k)) ⨾
+      (λ e k. absurd (operation-reserved _ k)) ⨾
+      (λ e k. absurd (operation-reserved _ k)) ⨾
+      (λ e k. absurd (operation-reserved _ k)) ⨾
+      (λ e k. absurd (operation-reserved _ k)) ⨾
+      (λ e k. absurd (operation-reserved _ k)) ⨾
+      (λ e k. absurd (operation-reserved _ k)) ⨾
+      (λ e k. (some-at 0 elementRows w e, element-reserved Op.Sqrdmlah _ w (bits size w) (omega arith) k)) ⨾
+      (λ e k. (some-at 1 elementRows w e, element-reserved Op.Sqrdmlah _ w (bits size w) (omega arith) k)) ⨾
+      (λ e k. (some-at 2 elementRows w e, element-reserved Op.Sqrdmlsh _ w (bits size w) (omega arith) k)) ⨾
+      (λ e k. (some-at 3 elementRows w e, element-reserved Op.Sqrdmlsh _ w (bits size w) (omega arith) k)) ⨾ tt)
       (λ none k. absurd (reserved-outside (sym k)))
 
   reserved-all : ReservedWord w → decodeOf w ≡ Decoded.Reserved
@@ -218,40 +159,19 @@ module _ (w : ℕ) where
 
   outside-only : decodeOf w ≡ Decoded.Outside → OutsideWord w
   outside-only h =
-      by-some (sveRows ++ elementRows) w ⊥ (
-        (λ e. operation-outside _ (sym (row-read w 0 e) ∙ h)),
-        (
-          (λ e. operation-outside _ (sym (row-read w 1 e) ∙ h)),
-          (
-            (λ e. operation-outside _ (sym (row-read w 2 e) ∙ h)),
-            (
-              (λ e. operation-outside _ (sym (row-read w 3 e) ∙ h)),
-              (
-                (λ e. operation-outside _ (sym (row-read w 4 e) ∙ h)),
-                (
-                  (λ e. operation-outside _ (sym (row-read w 5 e) ∙ h)),
-                  (
-                    (λ e. operation-outside _ (sym (row-read w 6 e) ∙ h)),
-                    (
-                      (λ e. operation-outside _ (sym (row-read w 7 e) ∙ h)),
-                      (
-                        (λ e. element-outside Op.Sqrdmlah _ w (bits size w) (sym (row-read w 8 e) ∙ h)),
-                        (
-                          (λ e. element-outside Op.Sqrdmlah _ w (bits size w) (sym (row-read w 9 e) ∙ h)),
-                          (
-                            (λ e. element-outside Op.Sqrdmlsh _ w (bits size w) (sym (row-read w 10 e) ∙ h)),
-                            ((λ e. element-outside Op.Sqrdmlsh _ w (bits size w) (sym (row-read w 11 e) ∙ h)), tt),
-                          ),
-                        ),
-                      ),
-                    ),
-                  ),
-                ),
-              ),
-            ),
-          ),
-        ),
-      )
+      by-some (sveRows ++ elementRows) w ⊥
+      ((λ e. operation-outside _ (sym (row-read w 0 e) ∙ h)) ⨾
+      (λ e. operation-outside _ (sym (row-read w 1 e) ∙ h)) ⨾
+      (λ e. operation-outside _ (sym (row-read w 2 e) ∙ h)) ⨾
+      (λ e. operation-outside _ (sym (row-read w 3 e) ∙ h)) ⨾
+      (λ e. operation-outside _ (sym (row-read w 4 e) ∙ h)) ⨾
+      (λ e. operation-outside _ (sym (row-read w 5 e) ∙ h)) ⨾
+      (λ e. operation-outside _ (sym (row-read w 6 e) ∙ h)) ⨾
+      (λ e. operation-outside _ (sym (row-read w 7 e) ∙ h)) ⨾
+      (λ e. element-outside Op.Sqrdmlah _ w (bits size w) (sym (row-read w 8 e) ∙ h)) ⨾
+      (λ e. element-outside Op.Sqrdmlah _ w (bits size w) (sym (row-read w 9 e) ∙ h)) ⨾
+      (λ e. element-outside Op.Sqrdmlsh _ w (bits size w) (sym (row-read w 10 e) ∙ h)) ⨾
+      (λ e. element-outside Op.Sqrdmlsh _ w (bits size w) (sym (row-read w 11 e) ∙ h)) ⨾ tt)
 
   pub outside-exact : (decodeOf w ≡ Decoded.Outside → OutsideWord w) × (OutsideWord w → decodeOf w ≡ Decoded.Outside)
   unfolding decodeOf

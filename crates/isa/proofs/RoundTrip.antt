@@ -22,7 +22,7 @@ use Rattle.isa.specs.Table.{size, Q, i2, i1, ZmH, ZmS, scalarRow, vector
 use Rattle.isa.specs.Decode.{table, decodeOf, addOf, mulOf, indexedOf, elementOf, vectorOf, sizeOf}
 use Rattle.isa.specs.Encode.{encodeOf, checksOf, indexedChecks, elementChecks, elementFieldsOf, formWritten, halfOrSingle, bySize}
 use Rattle.isa.proofs.Fields.{sound, Of, Fit, of-written, of-lt, fields-written}
-use Rattle.isa.proofs.Table.{row-read, by-row}
+use Rattle.isa.proofs.Table.{_⨾_, row-read, by-row}
 use Rattle.isa.proofs.Checks.{Passed, word-exact}
 use Rattle.isa.proofs.Families.{IndexedAt, registers-in, no-such, add-back, add-read, mul-back, mul-read, indexed-back, indexed-read, elementH, elementS, elementH-back, elementS-back, element-is, element-fits}
 
@@ -73,40 +73,19 @@ decode-encode w op =
     let mlah = element-back Op.Sqrdmlah 0x7F00_D000 0x2F00_D000 (λ a. refl) in
     let mlsh = element-back Op.Sqrdmlsh 0x7F00_F000 0x2F00_F000 (λ a. refl) in
     let vector : (s v : ℕ) → Of (vectorRow v) w → w ≡ formWritten (scalarRow s) (vectorRow v) (vectorOf (bits Q w)) (fieldsOf elementFields w) = λ s v e. e ∙ vector-form s v (bits Q w) (fieldsOf elementFields w) (omega arith) in
-    by-row table w (Decoded.Operation op) (encodeOf op ≡ Written.Word w) (
-      (λ e k. known w (Op.Cadd (addOf w)) op (add-back 0x4500_D800 w e) k),
-      (
-        (λ e k. known w (Op.Sqcadd (addOf w)) op (add-back 0x4501_D800 w e) k),
-        (
-          (λ e k. known w (Op.Cmla (mulOf w)) op (mul-back 0x4400_2000 w e) k),
-          (
-            (λ e k. known w (Op.Sqrdcmlah (mulOf w)) op (mul-back 0x4400_3000 w e) k),
-            (
-              (λ e k. known w (Op.CmlaIndexed (indexedOf Size.H i2 ZmH w)) op (indexed-back cmlaH cmlaS Size.H i2 ZmH 0x44A0_6000 w cmla-at-H e) k),
-              (
-                (λ e k. known w (Op.CmlaIndexed (indexedOf Size.S i1 ZmS w)) op (indexed-back cmlaH cmlaS Size.S i1 ZmS 0x44E0_6000 w cmla-at-S e) k),
-                (
-                  (λ e k. known w (Op.SqrdcmlahIndexed (indexedOf Size.H i2 ZmH w)) op (indexed-back sqrdcmlahH sqrdcmlahS Size.H i2 ZmH 0x44A0_7000 w sqrdcmlah-at-H e) k),
-                  (
-                    (λ e k. known w (Op.SqrdcmlahIndexed (indexedOf Size.S i1 ZmS w)) op (indexed-back sqrdcmlahH sqrdcmlahS Size.S i1 ZmS 0x44E0_7000 w sqrdcmlah-at-S e) k),
-                    (
-                      (λ e k. mlah (vectorOf (bits Q w)) w (bits size w) refl (vector 0x7F00_D000 0x2F00_D000 e) op k),
-                      (
-                        (λ e k. mlah Form.Scalar w (bits size w) refl e op k),
-                        (
-                          (λ e k. mlsh (vectorOf (bits Q w)) w (bits size w) refl (vector 0x7F00_F000 0x2F00_F000 e) op k),
-                          ((λ e k. mlsh Form.Scalar w (bits size w) refl e op k), tt),
-                        ),
-                      ),
-                    ),
-                  ),
-                ),
-              ),
-            ),
-          ),
-        ),
-      ),
-    )
+    by-row table w (Decoded.Operation op) (encodeOf op ≡ Written.Word w)
+    ((λ e k. known w (Op.Cadd (addOf w)) op (add-back 0x4500_D800 w e) k) ⨾
+    (λ e k. known w (Op.Sqcadd (addOf w)) op (add-back 0x4501_D800 w e) k) ⨾
+    (λ e k. known w (Op.Cmla (mulOf w)) op (mul-back 0x4400_2000 w e) k) ⨾
+    (λ e k. known w (Op.Sqrdcmlah (mulOf w)) op (mul-back 0x4400_3000 w e) k) ⨾
+    (λ e k. known w (Op.CmlaIndexed (indexedOf Size.H i2 ZmH w)) op (indexed-back cmlaH cmlaS Size.H i2 ZmH 0x44A0_6000 w cmla-at-H e) k) ⨾
+    (λ e k. known w (Op.CmlaIndexed (indexedOf Size.S i1 ZmS w)) op (indexed-back cmlaH cmlaS Size.S i1 ZmS 0x44E0_6000 w cmla-at-S e) k) ⨾
+    (λ e k. known w (Op.SqrdcmlahIndexed (indexedOf Size.H i2 ZmH w)) op (indexed-back sqrdcmlahH sqrdcmlahS Size.H i2 ZmH 0x44A0_7000 w sqrdcmlah-at-H e) k) ⨾
+    (λ e k. known w (Op.SqrdcmlahIndexed (indexedOf Size.S i1 ZmS w)) op (indexed-back sqrdcmlahH sqrdcmlahS Size.S i1 ZmS 0x44E0_7000 w sqrdcmlah-at-S e) k) ⨾
+    (λ e k. mlah (vectorOf (bits Q w)) w (bits size w) refl (vector 0x7F00_D000 0x2F00_D000 e) op k) ⨾
+    (λ e k. mlah Form.Scalar w (bits size w) refl e op k) ⨾
+    (λ e k. mlsh (vectorOf (bits Q w)) w (bits size w) refl (vector 0x7F00_F000 0x2F00_F000 e) op k) ⨾
+    (λ e k. mlsh Form.Scalar w (bits size w) refl e op k) ⨾ tt)
     (λ none k. absurd (not-outside op k))
 
 -- ---- from an operation to its word and back

@@ -1,15 +1,15 @@
 -- The table as a whole: each row is sound and no word matches two, both by a test that is computed over the whole table.
--- `row-read`: a word that matches a row decodes to what its entry reads. `row-first`: and that is the only way to be no outside word.
+-- `row-read`: a word that matches a row decodes to what its entry reads. `none-outside`: one that has the fixed bits of no row is outside.
 -- Assumes nothing.
 use Prim.Native.Nat.{ℕ, zero, suc, _^_, _<_}
 use mathlib.Core.Path.{_≡_, refl, sym, ap, _∙_}
-use mathlib.Core.List.{List, [], _∷_}
+use mathlib.Core.List.{List, [], _∷_, _++_}
 use mathlib.Core.Bool.{Bool, true, false, _&&_}
 use borrow.Author.Tests.{eq-eqb, ne-eqb, eqb-true}
 use Rattle.isa.specs.declared.types.Decoded.{Decoded}
 use Rattle.isa.specs.Field.{Row, matches, written, fieldsOf}
 use Rattle.isa.specs.Decode.{Entry, table, pick, first, decodeOf}
-use Rattle.isa.proofs.Fields.{sound, Of, and-left, and-right}
+use Rattle.isa.proofs.Fields.{sound, Of, Fixed, and-left, and-right, matches-fixed}
 use Rattle.isa.proofs.Apart.{apart, apart-never}
 
 abbrev apartFrom : Row → List Entry → Bool
@@ -57,6 +57,11 @@ module _ (w : ℕ) where
   unfolding decodeOf
   row-read n h = hit n table table-well-made h
 
+-- a proof for the first and one for the rest, so that a long row of them stays flat
+infixr 5 _⨾_
+pub _⨾_ : {A B : Type 0} → A → B → A × B
+_⨾_ a b = (a, b)
+
 -- no row matches
 abbrev pub NoRow : List Entry → ℕ → Type 0
 NoRow [] w = Unit {0}
@@ -79,3 +84,23 @@ by-row (e ∷ es) w d G each none h = by (matches (e .row) w) refl h (λ m. by-r
     by : (b : Bool) → matches (e .row) w ≡ b → pick b (e .read w) (first es w) ≡ d → (matches (e .row) w ≡ false → first es w ≡ d → G) → G
     by true m k next = each .0 (eqb-true w _ m) k
     by false m k next = next m k
+
+-- the fixed bits of a word are those of no row
+abbrev pub NoneFixed : List Entry → ℕ → Type 0
+NoneFixed [] w = Unit {0}
+NoneFixed (e ∷ es) w = (Fixed (e .row) w → ⊥) × NoneFixed es w
+
+pub none-join : (es fs : List Entry) (w : ℕ) → NoneFixed es w → NoneFixed fs w → NoneFixed (es ++ fs) w
+none-join [] fs w a b = b
+none-join (e ∷ es) fs w a b = (a .0, none-join es fs w (a .1) b)
+
+none-row : (es : List Entry) (w : ℕ) → wellMade es ≡ true → NoneFixed es w → NoRow es w
+none-row [] w m n = tt
+none-row (e ∷ es) w m n = (
+  ne-eqb w _ (λ o. n .0 (matches-fixed (e .row) (and-left _ _ m) w o)),
+  none-row es w (and-right (apartFrom (e .row) es) _ (and-right (sound (e .row)) _ m)) (n .1),
+)
+
+pub none-outside : (w : ℕ) → NoneFixed table w → decodeOf w ≡ Decoded.Outside
+unfolding decodeOf
+none-outside w n = no-row-outside table w (none-row table w table-well-made n)
