@@ -1,0 +1,311 @@
+ghost use Prim.Native.Nat.{_<_};
+// Decodes and writes the stored cases of standard input, and prints what comes of each: its number, word and fields.
+// A case has 12 bytes: a kind, three zeros, and a little-endian word (kind 0) or the eight fields of an operation.
+use isa::types::Add;
+use isa::types::ByElement;
+use isa::types::Decoded;
+use isa::types::Form;
+use isa::types::Mul;
+use isa::types::MulIndexed;
+use isa::types::Op;
+use isa::types::Rotation;
+use isa::types::Size;
+use isa::types::Written;
+use libc::STDIN_FILENO;
+use libc::STDOUT_FILENO;
+
+// Nothing says that the input ends, so the loop counts the cases.
+const MOST: usize = 100000;
+
+// An operation by numbers, as the reference model has it. A field that the family does not use is 0.
+struct Fields {
+    family: u8,
+    size: u8,
+    form: u8,
+    turns: u8,
+    destination: u8,
+    first: u8,
+    second: u8,
+    index: u8,
+}
+
+// ---- from numbers to an operation
+
+fn size_of(n: u8) -> Size {
+    match n {
+        0 => Size::B,
+        1 => Size::H,
+        2 => Size::S,
+        _ => Size::D,
+    }
+}
+
+fn rotation_of(turns: u8) -> Rotation {
+    match turns {
+        0 => Rotation::R0,
+        1 => Rotation::R90,
+        2 => Rotation::R180,
+        _ => Rotation::R270,
+    }
+}
+
+fn form_of(n: u8) -> Form {
+    match n {
+        0 => Form::Scalar,
+        1 => Form::Vector64,
+        _ => Form::Vector128,
+    }
+}
+
+fn add_of(f: Fields) -> Add {
+    Add {
+        size: size_of(f.size),
+        rot: rotation_of(f.turns),
+        zm: f.second,
+        zdn: f.destination,
+    }
+}
+
+fn mul_of(f: Fields) -> Mul {
+    Mul {
+        size: size_of(f.size),
+        rot: rotation_of(f.turns),
+        zm: f.second,
+        zn: f.first,
+        zda: f.destination,
+    }
+}
+
+fn indexed_of(f: Fields) -> MulIndexed {
+    MulIndexed {
+        size: size_of(f.size),
+        rot: rotation_of(f.turns),
+        zm: f.second,
+        index: f.index,
+        zn: f.first,
+        zda: f.destination,
+    }
+}
+
+fn element_of(f: Fields) -> ByElement {
+    ByElement {
+        form: form_of(f.form),
+        size: size_of(f.size),
+        rm: f.second,
+        index: f.index,
+        rn: f.first,
+        rd: f.destination,
+    }
+}
+
+fn operation_of(f: Fields) -> Op {
+    let family = f.family;
+    match family {
+        0 => Op::Cadd(add_of(f)),
+        1 => Op::Sqcadd(add_of(f)),
+        2 => Op::Cmla(mul_of(f)),
+        3 => Op::CmlaIndexed(indexed_of(f)),
+        4 => Op::Sqrdcmlah(mul_of(f)),
+        5 => Op::SqrdcmlahIndexed(indexed_of(f)),
+        6 => Op::Sqrdmlah(element_of(f)),
+        _ => Op::Sqrdmlsh(element_of(f)),
+    }
+}
+
+// ---- from an operation to numbers
+
+fn size_number(z: Size) -> u8 {
+    match z {
+        Size::B => 0,
+        Size::H => 1,
+        Size::S => 2,
+        Size::D => 3,
+    }
+}
+
+fn turns_of(rot: Rotation) -> u8 {
+    match rot {
+        Rotation::R0 => 0,
+        Rotation::R90 => 1,
+        Rotation::R180 => 2,
+        Rotation::R270 => 3,
+    }
+}
+
+fn form_number(f: Form) -> u8 {
+    match f {
+        Form::Scalar => 0,
+        Form::Vector64 => 1,
+        Form::Vector128 => 2,
+    }
+}
+
+fn of_add(family: u8, a: Add) -> Fields {
+    let size = a.size;
+    let rot = a.rot;
+    Fields {
+        family,
+        size: size_number(size),
+        form: 0,
+        turns: turns_of(rot),
+        destination: a.zdn,
+        first: 0,
+        second: a.zm,
+        index: 0,
+    }
+}
+
+fn of_mul(family: u8, a: Mul) -> Fields {
+    let size = a.size;
+    let rot = a.rot;
+    Fields {
+        family,
+        size: size_number(size),
+        form: 0,
+        turns: turns_of(rot),
+        destination: a.zda,
+        first: a.zn,
+        second: a.zm,
+        index: 0,
+    }
+}
+
+fn of_indexed(family: u8, a: MulIndexed) -> Fields {
+    let size = a.size;
+    let rot = a.rot;
+    Fields {
+        family,
+        size: size_number(size),
+        form: 0,
+        turns: turns_of(rot),
+        destination: a.zda,
+        first: a.zn,
+        second: a.zm,
+        index: a.index,
+    }
+}
+
+fn of_element(family: u8, a: ByElement) -> Fields {
+    let size = a.size;
+    let form = a.form;
+    Fields {
+        family,
+        size: size_number(size),
+        form: form_number(form),
+        turns: 0,
+        destination: a.rd,
+        first: a.rn,
+        second: a.rm,
+        index: a.index,
+    }
+}
+
+fn fields_of(op: Op) -> Fields {
+    match op {
+        Op::Cadd(a) => of_add(0, a),
+        Op::Sqcadd(a) => of_add(1, a),
+        Op::Cmla(a) => of_mul(2, a),
+        Op::CmlaIndexed(a) => of_indexed(3, a),
+        Op::Sqrdcmlah(a) => of_mul(4, a),
+        Op::SqrdcmlahIndexed(a) => of_indexed(5, a),
+        Op::Sqrdmlah(a) => of_element(6, a),
+        Op::Sqrdmlsh(a) => of_element(7, a),
+    }
+}
+
+// ---- printing
+
+fn print_number(n: u8) {
+    io::write_all(STDOUT_FILENO, b" ");
+    io::print_decimal(STDOUT_FILENO, n as u64);
+}
+
+fn print_word(word: u32) {
+    io::write_all(STDOUT_FILENO, b" ");
+    io::print_hex(STDOUT_FILENO, word as u64, 8);
+}
+
+fn print_fields(f: Fields) {
+    print_number(f.family);
+    print_number(f.size);
+    print_number(f.form);
+    print_number(f.turns);
+    print_number(f.destination);
+    print_number(f.first);
+    print_number(f.second);
+    print_number(f.index);
+}
+
+fn print_decoded(word: u32) {
+    io::write_all(STDOUT_FILENO, b"D");
+    print_word(word);
+    let decoded = codec::decode(word);
+    match decoded {
+        Decoded::Operation(op) => {
+            print_number(0);
+            print_fields(fields_of(op));
+        }
+        Decoded::Reserved => print_number(5),
+        Decoded::Outside => print_number(4),
+    }
+}
+
+fn print_answer(number: u8, word: u32) {
+    print_number(number);
+    print_word(word);
+}
+
+fn print_written(f: Fields) {
+    io::write_all(STDOUT_FILENO, b"E");
+    print_fields(f);
+    let written = codec::encode(operation_of(f));
+    match written {
+        Written::Word(word) => print_answer(0, word),
+        Written::NoSize => print_answer(7, 0),
+        Written::NoRotation => print_answer(8, 0),
+        Written::NoRegister => print_answer(9, 0),
+        Written::NoIndex => print_answer(10, 0),
+    }
+}
+
+// ---- cases
+
+fn wide(x: u8) -> u32
+    ensures { λ r. ⌜ r < 256 ⌝ }
+{
+    x as u32
+}
+
+fn print_case(c: [u8; 12]) {
+    if c[0] == 0 {
+        print_decoded(wide(c[4]) + (wide(c[5]) << 8) + (wide(c[6]) << 16) + (wide(c[7]) << 24));
+    } else {
+        print_written(Fields {
+            family: c[4],
+            size: c[5],
+            form: c[6],
+            turns: c[7],
+            destination: c[8],
+            first: c[9],
+            second: c[10],
+            index: c[11],
+        });
+    }
+    io::write_all(STDOUT_FILENO, b"\n");
+}
+
+fn run_case() -> bool {
+    let mut c = [0u8; 12];
+    if io::read_full(STDIN_FILENO, &mut c) < 12 {
+        return false;
+    }
+    print_case(c);
+    true
+}
+
+fn main() {
+    let mut left = MOST;
+    while 0 < left && run_case() {
+        left -= 1;
+    }
+}

@@ -1,0 +1,175 @@
+#!/usr/bin/env python3
+"""Writes the stored cases of the programs codec_cases and list, and what they must print.
+
+    cases.py [ROOT]            write them below ROOT (default: the repository that has this file)
+    cases.py --check [ROOT]    fail if what is stored is not what would be written
+
+A record of codec_cases is 12 bytes: the kind (0 decode, 1 encode) and three zeros; then the word,
+little-endian, and four zeros, or the eight fields of an operation in the model's order, a byte each.
+"""
+
+import struct
+import sys
+from itertools import combinations, product
+from pathlib import Path
+from random import Random
+
+sys.dont_write_bytecode = True  # the repository stays as it was
+import model
+from model import ELEMENT, INDEXED, TABLE, H, Operation, S
+
+REGISTERS = {"Zdn", "Zda", "Zn", "Zm", "Rd", "Rn", "Rm"}
+
+
+class Source:
+    """Seeded numbers. Python promises to keep only random() the same from version to version."""
+
+    def __init__(self, seed):
+        self.random = Random(seed).random
+
+    def below(self, n):
+        return int(self.random() * n)
+
+    def choose(self, items):
+        return items[self.below(len(items))]
+
+    def of_row(self, row):
+        """A word of the row with any fields."""
+        return row.base | self.below(2**32) & row.free
+
+    def mix(self, count):
+        """Words of which three in four belong to a row, each row as often as the others."""
+        random, rows = self.random, TABLE
+        for _ in range(count):
+            word = int(random() * 2**32)
+            at = int(random() * 16)
+            yield rows[at].base | word & rows[at].free if at < len(rows) else word
+
+
+# ---- words to decode
+
+
+def words():
+    source = Source(1)
+    yield from (0, 0xFFFFFFFF)
+    yield from (word for word, _ in model.P1_TO_P7)
+    yield from (2**bit for bit in range(32))
+    for row in TABLE:
+        # Every value of the small fields (size, rot, Q, L, M, H, index) with each register field at
+        # its edges. The element rows have all their reserved words' shapes here.
+        small = [name for name in row.fields if name not in REGISTERS]
+        registers = [name for name in row.fields if name in REGISTERS]
+        choices = [range(2 ** row.fields[name][1]) for name in small]
+        for chosen in product(*choices):
+            for register in registers:
+                for value in model.edges(2 ** row.fields[register][1] - 1):
+                    fields = row.read(source.of_row(row))
+                    fields.update(zip(small, chosen))
+                    fields[register] = value
+                    yield row.write(fields)
+        # Near misses: one fixed bit changed, with the fields empty, full and arbitrary; two changed.
+        fixed = [2**bit for bit in range(32) if row.fixed >> bit & 1]
+        full = row.base | row.free
+        for bit in fixed:
+            for word in (row.base, full, source.of_row(row), source.of_row(row)):
+                yield word ^ bit
+        for one, other in combinations(fixed, 2):
+            yield source.of_row(row) ^ one ^ other
+        for word in (row.base, full):
+            yield from (word + step for step in (-2, -1, 0, 1, 2))
+        yield from (source.of_row(row) for _ in range(150))
+    yield from (source.below(2**32) for _ in range(500))
+
+
+# ---- operations to write
+
+
+def operations():
+    source = Source(2)
+    kinds = list(model.kinds())
+
+    def within(kind):
+        """An operation of the kind with every register and the index within its limit."""
+        limits = model.limits_of(*kind[:2])
+        return Operation(*kind, *(0 if limit is None else source.below(limit + 1) for limit in limits))
+
+    def used(kind):
+        """The register and index fields of the kind, with their limits."""
+        limits = zip(Operation._fields[4:], model.limits_of(*kind[:2]))
+        return [(name, limit) for name, limit in limits if limit is not None]
+
+    for kind in kinds:
+        for name, limit in used(kind):
+            for value in (limit - 1, limit, limit + 1, 255):
+                yield within(kind)._replace(**{name: value})
+        # Several fields above their limits at once, and with a size or rotation that the family
+        # lacks: the number of the first check that fails is the answer.
+        for count in range(len(used(kind)) + 1):
+            for over in combinations(used(kind), count):
+                yield within(kind)._replace(**{name: limit + 1 for name, limit in over})
+        yield from (within(kind) for _ in range(10))
+
+    # The bounds that differ by size: H and S, each on either side of the other's limits.
+    for family, size in product(INDEXED + ELEMENT, (H, S)):
+        for index, second in product(range(10), (0, 7, 8, 15, 16, 31, 32)):
+            kind = source.choose([kind for kind in kinds if kind[:2] == (family, size)])
+            yield within(kind)._replace(second=second, index=index)
+
+    for _ in range(1200):
+        kind = source.choose(kinds)
+        yield within(kind)._replace(**{name: source.below(256) for name, _ in used(kind)})
+    for _ in range(500):
+        kind = source.choose(kinds)
+        name, _ = source.choose(used(kind))
+        yield within(kind)._replace(**{name: source.below(256)})
+
+
+# ---- the stored files
+
+
+def decode_case(word):
+    answer = model.decode(word)
+    number = {model.OUTSIDE: "4", model.RESERVED: "5"}.get(answer)
+    text = number or " ".join(map(str, (0, *answer)))
+    return struct.pack("<B3xI4x", 0, word), f"D {word:08x} {text}\n"
+
+
+def encode_case(op):
+    number, word = model.encode(op)
+    return struct.pack("<B3x8B", 1, *op), f"E {' '.join(map(str, op))} {number} {word:08x}\n"
+
+
+def files():
+    """Each stored file's path below the root, and its bytes."""
+    # dict.fromkeys: each case once, in the order in which it first came.
+    cases = [decode_case(word) for word in dict.fromkeys(words())]
+    cases += [encode_case(op) for op in dict.fromkeys(operations())]
+    yield "crates/codec_cases/stdin", b"".join(record for record, _ in cases)
+    yield "crates/codec_cases/stdout", "".join(line for _, line in cases).encode("ascii")
+
+    source = Source(3)
+    listed = [word for word, _ in model.P1_TO_P7] + list(source.mix(2000))
+    data = struct.pack(f"<{len(listed)}I", *listed) + b"\x00\xd8\x01"
+    yield "crates/list/stdin", data
+    yield "crates/list/stdout", model.listing(data)
+
+
+def main(arguments):
+    check = arguments[:1] == ["--check"]
+    rest = arguments[1:] if check else arguments
+    root = Path(rest[0]) if rest else Path(__file__).resolve().parent.parent
+    wrong = 0
+    for name, content in files():
+        path = root / name
+        if not check:
+            path.parent.mkdir(parents=True, exist_ok=True)
+            path.write_bytes(content)
+        elif not path.is_file() or path.read_bytes() != content:
+            print(f"cases: {name} is not what the model gives")
+            wrong += 1
+    print(f"cases: {wrong} files differ" if check else "cases: written")
+    return 1 if wrong else 0
+
+
+if __name__ == "__main__":
+    sys.exit(main(sys.argv[1:]))
