@@ -1,0 +1,7 @@
+pub mod Placed
+pub mod Tests
+pub mod Words
+pub mod Lines
+pub mod Decimal
+pub mod Parts
+pub mod Pieces
