@@ -1,5 +1,5 @@
 #!/usr/bin/env python3
-"""Writes the stored cases of the programs codec_cases and list, and what they must print.
+"""Writes the stored cases of the programs codec_cases, kernel_cases and list, and what they must print.
 
     cases.py [ROOT]            write them below ROOT (default: the repository that has this file)
     cases.py --check [ROOT]    fail if what is stored is not what would be written
@@ -15,6 +15,7 @@ from pathlib import Path
 from random import Random
 
 sys.dont_write_bytecode = True  # the repository stays as it was
+import kernel_cases
 import model
 from model import ELEMENT, INDEXED, TABLE, H, Operation, S
 
@@ -139,13 +140,19 @@ def encode_case(op):
     return struct.pack("<B3x8B", 1, *op), f"E {' '.join(map(str, op))} {number} {word:08x}\n"
 
 
+def stored(program, cases):
+    """The input and the output of a program, from its records and lines."""
+    yield f"crates/{program}/stdin", b"".join(record for record, _ in cases)
+    yield f"crates/{program}/stdout", "".join(line for _, line in cases).encode("ascii")
+
+
 def files():
     """Each stored file's path below the root, and its bytes."""
     # dict.fromkeys: each case once, in the order in which it first came.
     cases = [decode_case(word) for word in dict.fromkeys(words())]
     cases += [encode_case(op) for op in dict.fromkeys(operations())]
-    yield "crates/codec_cases/stdin", b"".join(record for record, _ in cases)
-    yield "crates/codec_cases/stdout", "".join(line for _, line in cases).encode("ascii")
+    yield from stored("codec_cases", cases)
+    yield from stored("kernel_cases", list(dict.fromkeys(kernel_cases.cases(Source(4)))))
 
     source = Source(3)
     listed = [word for word, _ in model.P1_TO_P7] + list(source.mix(2000))

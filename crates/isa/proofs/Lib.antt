@@ -6,4 +6,10 @@ pub mod Families
 pub mod RoundTrip
 pub mod Valid
 pub mod Exact
+pub mod Made
+pub mod Places
+pub mod Pair
+pub mod Lane
+pub mod Local
+pub mod Element
 pub mod Cases

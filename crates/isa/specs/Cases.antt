@@ -1,8 +1,14 @@
--- The cases that document 01 marks to be proved, one table: P1 to P7.
-use Prim.Native.Nat.{ℕ}
+-- The cases that document 01 marks to be proved, one table: P1 to P12.
+use Prim.Native.Nat.{ℕ, zero, suc, _^_}
 use mathlib.Core.Path.{_≡_}
+use mathlib.Core.Bool.{Bool}
 use mathlib.Core.List.{List, [], _∷_}
+use lib.IntN.{ℤ, pos, negℤ, _*ℤ_}
+use Rattle.integer.specs.Number.{End, neither, cutDown, raised, pattern, endOf, rounded, signedBy}
+use Rattle.integer.specs.Lane.{saturated}
+use Rattle.isa.specs.Register.{Regs, complex}
 use Rattle.isa.specs.Decode.{decodeOf}
+use Rattle.isa.specs.Meaning.{step, adds, subtracts}
 use Rattle.isa.specs.declared.types.Size.{Size}
 use Rattle.isa.specs.declared.types.Rotation.{Rotation}
 use Rattle.isa.specs.declared.types.Form.{Form}
@@ -13,13 +19,29 @@ use Rattle.isa.specs.declared.types.Decoded.{Decoded}
 pub data Case : Type 0 where
   -- a word, and what it decodes to
   decodes : ℕ → Decoded → Case
+  -- an operation on registers of bytes, and the real and imaginary lane of pair 0 of register 0 after it
+  leaves : Op → Regs → ℤ → ℤ → Case
+  -- a lane of N bits, plus or minus, its addend and factors; what it becomes, and which end it was brought to
+  rounds : ℕ → Bool → ℤ → ℤ → ℤ → ℤ → End → Case
 
 abbrev pub Holds : Case → Type 0
 Holds (decodes w d) = decodeOf w ≡ d
+Holds (leaves op regs re im) = (complex Size.B (step op regs 0) 0 .re ≡ re) × (complex Size.B (step op regs 0) 0 .im ≡ im)
+Holds (rounds N minus c a b lane end) = (saturated N c (signedBy minus (a *ℤ b)) ≡ lane) × (endOf N (rounded N c (signedBy minus (a *ℤ b))) ≡ end)
 
 abbrev pub AllHold : List Case → Type 0
 AllHold [] = Unit {0}
 AllHold (c ∷ cs) = Holds c × AllHold cs
+
+-- register 0 starts with the pair (a, b) of bytes, every other with (c, d)
+unfoldable pub holding : ℤ → ℤ → ℤ → ℤ → Regs
+holding a b c d zero zero = pattern 8 a
+holding a b c d zero (suc j) = pattern 8 b
+holding a b c d (suc r) zero = pattern 8 c
+holding a b c d (suc r) (suc j) = pattern 8 d
+
+abbrev pub minus : ℕ → ℤ
+minus n = negℤ (pos n)
 
 abbrev pub cases : List Case
 cases =
@@ -40,4 +62,18 @@ cases =
     decodes 0x2FC0_F000 Decoded.Reserved ∷
     decodes 0x2F00_F400 Decoded.Outside ∷
     decodes 0x4420_7000 Decoded.Outside ∷
-    decodes 0x0000_0000 Decoded.Outside ∷ []
+    decodes 0x0000_0000 Decoded.Outside ∷
+    -- P8
+    leaves (Op.Sqcadd (record { size = Size.B; rot = Rotation.R90; zm = 1; zdn = 0 })) (holding (pos 0) (pos 0) (minus 128) (minus 128)) (pos 127) (minus 128) ∷
+    leaves (Op.Cadd (record { size = Size.B; rot = Rotation.R90; zm = 1; zdn = 0 })) (holding (pos 0) (pos 0) (minus 128) (minus 128)) (minus 128) (minus 128) ∷
+    -- P9
+    rounds 16 adds (minus 1) (minus 32768) (minus 32768) (pos 32767) neither ∷
+    rounds 16 adds (pos 0) (minus 32768) (minus 32768) (pos 32767) cutDown ∷
+    -- P10
+    rounds 16 adds (pos 5) (pos 128) (pos 128) (pos 6) neither ∷
+    rounds 16 subtracts (pos 5) (pos 128) (pos 128) (pos 5) neither ∷
+    -- P11
+    rounds 64 subtracts (pos 0) (minus (2 ^ 63)) (minus (2 ^ 63)) (minus (2 ^ 63)) neither ∷
+    rounds 64 subtracts (minus 1) (minus (2 ^ 63)) (minus (2 ^ 63)) (minus (2 ^ 63)) raised ∷
+    -- P12
+    leaves (Op.Sqcadd (record { size = Size.B; rot = Rotation.R90; zm = 0; zdn = 0 })) (holding (pos 1) (pos 2) (pos 1) (pos 2)) (minus 1) (pos 3) ∷ []

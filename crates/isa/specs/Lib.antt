@@ -5,4 +5,8 @@ pub mod Encode
 pub mod Valid
 pub mod Allowed
 pub mod Number
+pub mod Register
+pub mod Meaning
+pub mod Segment
+pub mod Stage
 pub mod Cases

@@ -1,0 +1,138 @@
+-- A lane of n worked out in a width w of twice its bits: each step fits, and what is read at the end is the exact number.
+-- The laws are over the two widths; `wide8`, `wide16` and `wide32` are the widths that the code has.
+-- Assumes nothing.
+use mathlib.Core.Path.{_≡_, refl, sym, ap, ap₂, _∙_}
+use mathlib.Core.Bool.{Bool}
+use Prim.Native.Nat.{ℕ, _+_, _*_, _%_, _^_, _<_}
+use native.Mathlib.Nat.{lt-of-le-of-lt, mul-le-mul-left}
+use lib.Pow.{pow-pos}
+use native.Mathlib.Omega.{arith}
+use lib.Dec.{lit<}
+use lib.IntN.{ℤ, pos, _+ℤ_, _*ℤ_}
+use lib.Signed.{shrZ, mag, mag-shr}
+use mir.Syntax.{Width, w8, w16, w32, w64}
+use mir.Val.{SFits, toZ, ofZ, bits, hbits}
+use mir.Facts.{toZ-ofZ}
+use Rattle.integer.specs.Number.{rounded, signedBy, signed, pattern, wrap}
+use Rattle.integer.specs.Lane.{SumIn}
+use Rattle.integer.proofs.Word.{kept, pattern-narrow}
+use Rattle.integer.proofs.Round.{round-apart, sum-mag, product-mag, signed-mag}
+
+-- q is a quarter of 2^N, where n has N bits, and w has room for a product, an addend and q
+pub record Wide (n w : Width) (q : ℕ) : Type 0 where
+  pub even : 2 ^ hbits n ≡ q * 2
+  pub room : 2 ^ hbits n * 2 ^ hbits n + 2 ^ hbits n + q + 8 < 2 ^ hbits w
+  pub doubled : bits w ≡ bits n + bits n
+  pub one-more : bits n ≡ hbits n + 1
+
+pub wide8 : Wide w8 w16 64
+wide8 = record { even = refl; room = lit< tt; doubled = refl; one-more = refl }
+
+pub wide16 : Wide w16 w32 16384
+wide16 = record { even = refl; room = lit< tt; doubled = refl; one-more = refl }
+
+pub wide32 : Wide w32 w64 1073741824
+wide32 = record { even = refl; room = lit< tt; doubled = refl; one-more = refl }
+
+module _ {n w : Width} {q : ℕ} (r : Wide n w q) where
+  -- a lane, widened
+  pub widened : {z : ℤ} → SFits n z → SFits w z
+  widened f = record { sfits = omega (arith, f .sfits, r .room) }
+
+  pub fits-cast : {z : ℤ} → SFits n z → SFits w (toZ n (ofZ n z))
+  fits-cast f = simp (toZ-ofZ f) (widened f)
+
+  pub read-cast : {z : ℤ} → SFits n z → toZ w (ofZ w (toZ n (ofZ n z))) ≡ z
+  read-cast f = simp (toZ-ofZ f, toZ-ofZ (widened f))
+
+  -- the product
+  fits-exact : {a b : ℤ} → SFits n a → SFits n b → SFits w (a *ℤ b)
+  fits-exact {a} {b} f g = record { sfits = omega (arith, product-mag (hbits n) a b (f .sfits) (g .sfits), r .room) }
+
+  pub fits-product : {a b : ℤ} → SFits n a → SFits n b → SFits w (toZ w (ofZ w (toZ n (ofZ n a))) *ℤ toZ w (ofZ w (toZ n (ofZ n b))))
+  fits-product f g = simp (read-cast f, read-cast g) (fits-exact f g)
+
+  pub product-read : {a b : ℤ} → SFits n a → SFits n b → toZ w (ofZ w (toZ w (ofZ w (toZ n (ofZ n a))) *ℤ toZ w (ofZ w (toZ n (ofZ n b))))) ≡ a *ℤ b
+  product-read f g = simp (read-cast f, read-cast g, toZ-ofZ (fits-exact f g))
+
+  -- what the product's local reads
+  pub exact : {a b p : ℤ} → SFits n a → SFits n b → mag p < 2 ^ hbits w → p ≡ toZ n (ofZ n a) *ℤ toZ n (ofZ n b) → toZ w (ofZ w p) ≡ a *ℤ b
+  exact f g h e = kept w _ h ∙ e ∙ simp (toZ-ofZ f, toZ-ofZ g)
+
+  -- a sum of a lane and of a number as large as a product
+  product-in : {x a b : ℤ} → mag x < 2 ^ hbits n → SFits n a → SFits n b → SumIn (hbits n) x (a *ℤ b)
+  product-in {x} {a} {b} h f g = record { lane-size = h; small = product-mag (hbits n) a b (f .sfits) (g .sfits) }
+
+  lane-in : {x b : ℤ} → SFits n x → SFits n b → SumIn (hbits n) x b
+  lane-in f g = record { lane-size = f .sfits; small = omega (arith, g .sfits, mul-le-mul-left (2 ^ hbits n) (pow-pos (hbits n))) }
+
+  pub lanes-in : {x b : ℤ} → SFits n x → SFits n b → SumIn (hbits n) (toZ w (ofZ w (toZ n (ofZ n x)))) (toZ w (ofZ w (toZ n (ofZ n b))))
+  lanes-in f g = simp (read-cast f, read-cast g) (lane-in f g)
+
+  fits-sum : (minus : Bool) {x y : ℤ} → SumIn (hbits n) x y → SFits w (x +ℤ signedBy minus y)
+  fits-sum minus {x} {y} i =
+      record { sfits = omega (arith, sum-mag x (signedBy minus y) (2 ^ hbits n) (2 ^ hbits n * 2 ^ hbits n + 1 + 1) (i .lane-size) (signed-mag minus y (i .small)), r .room) }
+
+  pub fits-plus-minus : (minus : Bool) {x y : ℤ} → SFits w x → SFits w y → SumIn (hbits n) x y → SFits w (toZ w (ofZ w x) +ℤ signedBy minus (toZ w (ofZ w y)))
+  fits-plus-minus minus f g i = simp (toZ-ofZ f, toZ-ofZ g) (fits-sum minus i)
+
+  pub read-plus-minus : {minus : Bool} (t : Bool) {x y : ℤ} → minus ≡ t → SFits w x → SFits w y → SumIn (hbits n) x y → toZ w (ofZ w (toZ w (ofZ w x) +ℤ signedBy t (toZ w (ofZ w y)))) ≡ x +ℤ signedBy minus y
+  read-plus-minus t e f g i = simp (toZ-ofZ f, toZ-ofZ g, toZ-ofZ (fits-sum t i), e)
+
+  -- the rounded sum. v is what the code reads for a quarter and the product
+  pub quarter-in : {a b p : ℤ} → SFits n a → SFits n b → p ≡ a *ℤ b → SumIn (hbits n) (pos q) p
+  quarter-in f g e = rw e (product-in (omega (arith, r .even, pow-pos (hbits n))) f g)
+
+  module _ (minus : Bool) {c a b v : ℤ} (fc : SFits n c) (fa : SFits n a) (fb : SFits n b) (e : v ≡ pos q +ℤ signedBy minus (a *ℤ b)) where
+    shifted : mag (shrZ v (2 ^ hbits n)) < q + (2 ^ hbits n * 2 ^ hbits n) + 4
+    shifted =
+        lt-of-le-of-lt (mag-shr v (2 ^ hbits n))
+        (rw e (omega (arith, sum-mag (pos q) (signedBy minus (a *ℤ b)) (q + 1) (2 ^ hbits n * 2 ^ hbits n + 1 + 1) (omega arith) (signed-mag minus (a *ℤ b) (product-mag (hbits n) a b (fa .sfits) (fb .sfits))))))
+
+    fits-shifted : SFits w (shrZ v (2 ^ hbits n))
+    fits-shifted = record { sfits = omega (arith, shifted, r .room) }
+
+    fits-total : SFits w (c +ℤ shrZ v (2 ^ hbits n))
+    fits-total = record { sfits = omega (arith, sum-mag c (shrZ v (2 ^ hbits n)) (2 ^ hbits n) (q + (2 ^ hbits n * 2 ^ hbits n) + 4) (fc .sfits) shifted, r .room) }
+
+    pub fits-rounded : SFits w (toZ w (ofZ w (toZ n (ofZ n c))) +ℤ toZ w (ofZ w (shrZ v (2 ^ hbits n))))
+    fits-rounded = simp (read-cast fc, toZ-ofZ fits-shifted) fits-total
+
+    halved : toZ w (ofZ w (toZ w (ofZ w (toZ n (ofZ n c))) +ℤ toZ w (ofZ w (shrZ v (2 ^ hbits n))))) ≡ rounded (hbits n + 1) c (signedBy minus (a *ℤ b))
+    halved =
+        simp (read-cast fc, toZ-ofZ fits-shifted, toZ-ofZ fits-total)
+        (ap (λ (z : ℤ). c +ℤ shrZ z (2 ^ hbits n)) e ∙ sym (round-apart (hbits n) q (r .even) c (signedBy minus (a *ℤ b))))
+
+    pub read-rounded : toZ w (ofZ w (toZ w (ofZ w (toZ n (ofZ n c))) +ℤ toZ w (ofZ w (shrZ v (2 ^ hbits n))))) ≡ rounded (bits n) c (signedBy minus (a *ℤ b))
+    read-rounded = halved ∙ ap (λ (N : ℕ). rounded N c (signedBy minus (a *ℤ b))) (sym (r .one-more))
+
+  -- the product p of a and b, and what the sum of a quarter and it, and of a lane and it, reads
+  module _ (minus : Bool) {a b p : ℤ} (f : SFits n a) (g : SFits n b) (h : mag p < 2 ^ hbits w) (e : p ≡ toZ n (ofZ n a) *ℤ toZ n (ofZ n b)) where
+    pub total : {v : ℤ} → mag v < 2 ^ hbits w → v ≡ pos q +ℤ signedBy minus (toZ w (ofZ w p)) → toZ w (ofZ w v) ≡ pos q +ℤ signedBy minus (a *ℤ b)
+    total k s = kept w _ k ∙ s ∙ ap (λ (z : ℤ). pos q +ℤ signedBy minus z) (exact f g h e)
+
+    pub product-sum : {c s : ℤ} → SFits n c → s ≡ toZ w (ofZ w (toZ n (ofZ n c))) +ℤ signedBy minus (toZ w (ofZ w p)) → s ≡ c +ℤ signedBy minus (a *ℤ b)
+    product-sum i s = s ∙ ap₂ (λ x z. x +ℤ signedBy minus z) (read-cast i) (exact f g h e)
+
+  pub sum-in : {c a b p : ℤ} → SFits n c → SFits n a → SFits n b → mag p < 2 ^ hbits w → p ≡ toZ n (ofZ n a) *ℤ toZ n (ofZ n b) → SumIn (hbits n) (toZ w (ofZ w (toZ n (ofZ n c)))) (toZ w (ofZ w p))
+  sum-in i f g h e = rw (read-cast i, exact f g h e) (product-in (i .sfits) f g)
+
+  -- what is read of a lane that f makes of a wider number
+  pub read-through : (f : ℤ → ℤ) {v s y : ℤ} → mag v < 2 ^ hbits n → mag s < 2 ^ hbits w → v ≡ f (toZ w (ofZ w s)) → s ≡ y → toZ n (ofZ n v) ≡ f y
+  read-through f h k e p = kept n _ h ∙ e ∙ ap f (kept w _ k ∙ p)
+
+  -- the sum of two lanes that were widened, and of a lane and a product
+  pub lanes-sum : {c b s : ℤ} (minus : Bool) → SFits n c → SFits n b → s ≡ toZ w (ofZ w (toZ n (ofZ n c))) +ℤ signedBy minus (toZ w (ofZ w (toZ n (ofZ n b)))) → s ≡ c +ℤ signedBy minus b
+  lanes-sum minus f g e = e ∙ simp (read-cast f, read-cast g)
+
+  -- the rounded sum of lanes that fit
+  pub rounded-sum : {c a b s : ℤ} (minus : Bool) → SFits n c → SFits n a → SFits n b → s ≡ rounded (bits n) (toZ n (ofZ n c)) (signedBy minus (toZ n (ofZ n a) *ℤ toZ n (ofZ n b))) → s ≡ rounded (bits n) c (signedBy minus (a *ℤ b))
+  rounded-sum minus i f g e = e ∙ simp (toZ-ofZ i, toZ-ofZ f, toZ-ofZ g)
+
+  -- the low bits of x
+  pub read-cut : {x v : ℤ} {u : ℕ} → SFits w x → mag v < 2 ^ hbits n → u ≡ pattern (bits w) (toZ w (ofZ w x)) → v ≡ signed (bits n) (u % 2 ^ bits n) → toZ n (ofZ n v) ≡ wrap (bits n) x
+  unfolding wrap
+  read-cut {x} f h e p =
+      kept n _ h ∙ p
+      ∙ ap (λ (u : ℕ). signed (bits n) (u % 2 ^ bits n)) (e ∙ ap (pattern (bits w)) (toZ-ofZ f) ∙ ap (λ (N : ℕ). pattern N x) (r .doubled))
+      ∙ ap (signed (bits n)) (pattern-narrow (bits n) (bits n) x)

@@ -1,0 +1,23 @@
+-- What a lane of N bits becomes of its old number and of what is added, and what the code of a lane takes and gives.
+-- Assumes nothing.
+use Prim.Native.Nat.{ℕ, _+_, _*_, _^_, _<_}
+use lib.IntN.{ℤ, _+ℤ_}
+use lib.Signed.{mag}
+use Rattle.integer.specs.Number.{clamp, rounded, wrap}
+
+-- The rounded sum, clamped once.
+unfoldable pub saturated : ℕ → ℤ → ℤ → ℤ
+saturated N c t = clamp N (rounded N c t)
+
+-- The sum, modulo 2^N.
+unfoldable pub wrapped : ℕ → ℤ → ℤ → ℤ
+wrapped N c t = wrap N (c +ℤ t)
+
+-- The sum, clamped.
+unfoldable pub clamped : ℕ → ℤ → ℤ → ℤ
+clamped N c t = clamp N (c +ℤ t)
+
+-- What a sum takes in the code: a lane of s + 1 bits, and a number as large as a product of two lanes.
+pub record SumIn (s : ℕ) (x y : ℤ) : Type 0 where
+  pub lane-size : mag x < 2 ^ s
+  pub small : mag y < 2 ^ s * 2 ^ s + 1

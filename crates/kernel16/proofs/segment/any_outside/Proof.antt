@@ -1,0 +1,64 @@
+-- `kernel16::segment::any_outside` meets its contract: `any` tells of the lanes passed.
+-- Assumes nothing.
+use mathlib.Core.Path.{ap, _∙_}
+use mathlib.Core.Logic.{⊎-elim}
+use Prim.Native.Nat.{_-_}
+use native.Mathlib.Omega.{arith}
+use borrow.Author.Needs.{needs}
+use mir.Syntax.{w32}
+use Rattle.integer.specs.Number.{clamps}
+use Rattle.integer.proofs.Word.{kept}
+use Rattle.isa.specs.Stage.{lane}
+use Rattle.isa.proofs.Element.{Told, told-none, told-hit, told-miss, told-all}
+use Rattle.kernel16.proofs.segment.any_outside.Statement.{statement}
+use Rattle.kernel16.proofs.segment.any_outside.Tie as tie
+
+abbrev Inv-loop : tie.InvT-loop
+Inv-loop s any₀ e₀ any e = Told 8 e (λ k. clamps 16 (lane s k)) any
+
+abbrev μ-loop : tie.MeasureT-loop
+μ-loop s any₀ e₀ any e = 8 - e
+
+loop-holds : tie.Need-loop-holds Inv-loop μ-loop
+loop-holds c = told-none
+
+mul-outside : tie.Need-mul-outside Inv-loop μ-loop
+mul-outside c = search needs
+
+array-copy-out-outside : tie.Need-array-copy-out-outside Inv-loop μ-loop
+array-copy-out-outside c = search needs
+
+outside-requires : tie.Need-outside-requires Inv-loop μ-loop
+outside-requires c κs = search needs
+
+add-e : tie.Need-add-e Inv-loop μ-loop
+add-e c = search needs
+
+loop-less : tie.Need-loop-less Inv-loop μ-loop
+loop-less c = search needs
+
+loop-again : tie.Need-loop-again Inv-loop μ-loop
+loop-again c =
+    let o = c .before in
+    let l = o .before .before .before .loop in
+    let s = o .before .before .before .before .args .t1 in
+    let found = o .outside .ensures ∙ ap (clamps 16) (kept w32 (lane s (l .e)) (o .before .outside-arg .given)) in
+    ⊎-elim (λ w. told-hit (l .inv) (omega arith) found (w .0 .taken) (w .1)) (λ w. told-miss (l .inv) (omega arith) found (w .0 .left) (w .1)) (c .if1 .came)
+
+returns : tie.Need-returns Inv-loop μ-loop
+returns c = told-all (c .before .loop .inv) (omega arith)
+
+pub any-outside-spec : {M : Type 1} → statement M
+any-outside-spec =
+    tie.close
+    (tie.spec
+    Inv-loop
+    μ-loop
+    loop-holds
+    mul-outside
+    array-copy-out-outside
+    outside-requires
+    add-e
+    loop-less
+    loop-again
+    returns)

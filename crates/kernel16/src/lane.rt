@@ -1,0 +1,87 @@
+// One lane of 16 bits, worked out exactly in 32.
+ghost use mathlib.Core.Path.{_≡_};
+ghost use mathlib.Core.Bool.{cond};
+ghost use lib.IntN.{pos, _+ℤ_, _*ℤ_};
+ghost use Rattle.integer.specs.Number.{rounded, clamp, clamps, wrap, signedBy};
+ghost use Rattle.integer.specs.Lane.{saturated, wrapped, clamped, SumIn};
+use crate::product::product;
+use common::bits16::of_bits;
+use common::bits32::to_bits;
+
+// x brought into 16 bits.
+pub fn narrow(x: i32) -> i16
+    ensures { λ r. ⌜ r ≡ clamp 16 x ⌝ }
+{
+    if x < -32768 {
+        -32768
+    } else if 32767 < x {
+        32767
+    } else {
+        x as i16
+    }
+}
+
+// Whether x has no place in 16 bits.
+pub fn outside(x: i32) -> bool
+    ensures { λ r. ⌜ r ≡ clamps 16 x ⌝ }
+{
+    if x < -32768 { true } else { 32767 < x }
+}
+
+// x, or 0: chosen after x is worked out, so that the loops over lanes have no branch.
+pub fn masked(on: bool, x: i32) -> i32
+    ensures { λ r. ⌜ r ≡ cond on x (pos 0) ⌝ }
+{
+    if on { x } else { 0 }
+}
+
+// x modulo 2^16.
+fn cut(x: i32) -> i16
+    ensures { λ r. ⌜ r ≡ wrap 16 x ⌝ }
+{
+    of_bits((to_bits(x) % 65536) as u16)
+}
+
+// x plus or minus y.
+fn plus_minus(x: i32, y: i32, minus: bool) -> i32
+    requires { ⌜ SumIn 15 x y ⌝ }
+    ensures { λ r. ⌜ r ≡ x +ℤ signedBy minus y ⌝ }
+{
+    if minus { x - y } else { x + y }
+}
+
+// c and the product of a and b, or its negative, doubled and rounded to its upper half.
+pub fn rounding(c: i16, a: i16, b: i16, minus: bool) -> i32
+    ensures { λ r. ⌜ r ≡ rounded 16 c (signedBy minus (a *ℤ b)) ⌝ }
+{
+    let t = plus_minus(16384, product(a, b), minus);
+    (c as i32) + (t >> 15)
+}
+
+// The same, clamped.
+pub fn round(c: i16, a: i16, b: i16, minus: bool) -> i16
+    ensures { λ r. ⌜ r ≡ saturated 16 c (signedBy minus (a *ℤ b)) ⌝ }
+{
+    narrow(rounding(c, a, b, minus))
+}
+
+// c plus or minus the product of a and b, modulo 2^16.
+pub fn mla(c: i16, a: i16, b: i16, minus: bool) -> i16
+    ensures { λ r. ⌜ r ≡ wrapped 16 c (signedBy minus (a *ℤ b)) ⌝ }
+{
+    cut(plus_minus(c as i32, product(a, b), minus))
+}
+
+// c plus or minus b, modulo 2^16.
+pub fn add(c: i16, b: i16, minus: bool) -> i16
+    ensures { λ r. ⌜ r ≡ wrapped 16 c (signedBy minus b) ⌝ }
+{
+    cut(plus_minus(c as i32, b as i32, minus))
+}
+
+// c plus or minus b, clamped.
+pub fn sat(c: i16, b: i16, minus: bool) -> i16
+    ensures { λ r. ⌜ r ≡ clamped 16 c (signedBy minus b) ⌝ }
+{
+    narrow(plus_minus(c as i32, b as i32, minus))
+}

@@ -1,0 +1,3 @@
+pub mod Columns
+pub mod TwoWords
+pub mod Sum64
