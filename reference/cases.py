@@ -1,5 +1,6 @@
 #!/usr/bin/env python3
-"""Writes the stored cases of the programs codec_cases, kernel_cases and list, and what they must print.
+"""Writes the stored cases of the programs cases, codec_cases, kernel_cases and list, and what they must
+print.
 
     cases.py [ROOT]            write them below ROOT (default: the repository that has this file)
     cases.py --check [ROOT]    fail if what is stored is not what would be written
@@ -17,6 +18,7 @@ from random import Random
 sys.dont_write_bytecode = True  # the repository stays as it was
 import kernel_cases
 import model
+import run_cases
 from model import ELEMENT, INDEXED, TABLE, H, Operation, S
 
 REGISTERS = {"Zdn", "Zda", "Zn", "Zm", "Rd", "Rn", "Rm"}
@@ -153,6 +155,7 @@ def files():
     cases += [encode_case(op) for op in dict.fromkeys(operations())]
     yield from stored("codec_cases", cases)
     yield from stored("kernel_cases", list(dict.fromkeys(kernel_cases.cases(Source(4)))))
+    yield from stored("cases", list(dict.fromkeys(run_cases.cases(Source(5)))))
 
     source = Source(3)
     listed = [word for word, _ in model.P1_TO_P7] + list(source.mix(2000))

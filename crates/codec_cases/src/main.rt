@@ -1,6 +1,6 @@
-ghost use Prim.Native.Nat.{_<_};
 // Decodes and writes the stored cases of standard input, and prints what comes of each: its number, word and fields.
 // A case has 12 bytes: a kind, three zeros, and a little-endian word (kind 0) or the eight fields of an operation.
+ghost use Prim.Native.Nat.{_<_};
 use isa::types::Add;
 use isa::types::ByElement;
 use isa::types::Decoded;

@@ -13,3 +13,11 @@ pub mod Lane
 pub mod Local
 pub mod Element
 pub mod Cases
+pub mod File
+pub mod FileChecks
+pub mod Progress
+pub mod Run
+pub mod Going
+pub mod Order
+pub mod Fits
+pub mod Agnostic

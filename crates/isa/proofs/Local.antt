@@ -43,7 +43,7 @@ module _ (k i : ℕ) where
   lane-at S = omega arith
   lane-at D = omega arith
 
-  pub indexed-shift : (z : Size) (index : ℕ) → indexed z index (pairs z * k + i) ≡ pairs z * k + indexed z index i
+  indexed-shift : (z : Size) (index : ℕ) → indexed z index (pairs z * k + i) ≡ pairs z * k + indexed z index i
   unfolding pairs indexed
   indexed-shift B index = omega arith
   indexed-shift H index = omega arith
@@ -74,7 +74,7 @@ module _ (z : Size) (k : ℕ) where
       λ i. record { re = even i; im = odd i }
 
   -- where the pair of the second source moves with the segments
-  pub pair-shift : (choose : ℕ → ℕ) → ((p : ℕ) → choose (pairs z * k + p) ≡ pairs z * k + choose p) →
+  pair-shift : (choose : ℕ → ℕ) → ((p : ℕ) → choose (pairs z * k + p) ≡ pairs z * k + choose p) →
       (result : Complex → Complex → Complex → Complex) (c n m : Bytes) (i : ℕ) →
       pairBytes z choose result c n m (16 * k + i) ≡ pairBytes z choose result (window k c) (window k n) (window k m) i
   unfolding pairBytes
@@ -82,7 +82,7 @@ module _ (z : Size) (k : ℕ) where
       let q = i / (2 * bytes z) in
       rw (pair-of k i z, part-of k i z, place-of k i z, moves q, complex-shift c q, complex-shift n q, complex-shift m (choose q))
 
-  pub own-shift : (p : ℕ) → own (pairs z * k + p) ≡ pairs z * k + own p
+  own-shift : (p : ℕ) → own (pairs z * k + p) ≡ pairs z * k + own p
   unfolding own
   own-shift p = refl
 
@@ -247,7 +247,7 @@ flag-kept (Sqrdmlah o) sve regs flag = absurd (true≢false sve)
 flag-kept (Sqrdmlsh o) sve regs flag = absurd (true≢false sve)
 
 -- Above the first 16 bytes, a byte that an Advanced SIMD operation writes depends on the byte there before alone.
-lane-above : (l : Form) (z : Size) (index : ℕ) (minus : Bool) (c n m : Bytes) (j : ℕ) → 16 ≤ j → laneBytes l z index minus c n m j ≡ above (c j)
+pub lane-above : (l : Form) (z : Size) (index : ℕ) (minus : Bool) (c n m : Bytes) (j : ℕ) → 16 ≤ j → laneBytes l z index minus c n m j ≡ above (c j)
 unfolding laneBytes
 lane-above l z index minus c n m j h = rw (le-ltb j 16 h)
 

@@ -10,3 +10,6 @@ pub mod Meaning
 pub mod Segment
 pub mod Stage
 pub mod Cases
+pub mod File
+pub mod Run
+pub mod Claim

@@ -3,6 +3,8 @@ use Prim.Native.Nat.{ℕ}
 use Rattle.isa.specs.declared.types.Op.{Op}
 use Rattle.isa.specs.declared.types.Decoded.{Decoded}
 use Rattle.isa.specs.declared.types.Written.{Written}
+use Rattle.isa.specs.declared.types.Checked.{Checked}
+use Rattle.isa.specs.declared.types.Ending.{Ending}
 
 -- decoding
 unfoldable pub decodedNumber : Decoded → ℕ
@@ -24,3 +26,19 @@ writtenWord Written.NoSize = 0
 writtenWord Written.NoRotation = 0
 writtenWord Written.NoRegister = 0
 writtenWord Written.NoIndex = 0
+
+-- asking for a register
+unfoldable pub checkedNumber : Checked → ℕ
+checkedNumber Checked.Passed = 0
+checkedNumber Checked.BadLength = 1
+checkedNumber Checked.BadSize = 2
+checkedNumber Checked.NoRegister = 6
+
+-- a run
+unfoldable pub endingNumber : Ending → ℕ
+endingNumber Ending.Done = 0
+endingNumber Ending.BadLength = 1
+endingNumber Ending.BadSize = 2
+endingNumber Ending.TooLong = 3
+endingNumber Ending.Outside = 4
+endingNumber Ending.Reserved = 5

@@ -1,0 +1,4 @@
+pub mod Sources
+pub mod Segments
+pub mod Arms
+pub mod Words

@@ -1,0 +1,9 @@
+// Executes operations and runs programs on a lent register file.
+mod kernels;
+mod program;
+mod state;
+mod step;
+
+pub use program::ending_number;
+pub use program::execute;
+pub use program::run;

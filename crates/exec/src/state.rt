@@ -1,0 +1,36 @@
+// What a run carries from word to word.
+ghost use mathlib.Core.Path.{_≡_};
+ghost use mathlib.Core.Bool.{_||_};
+ghost use Prim.Native.Nat.{_+_, _<_};
+use isa::types::Ending;
+
+// The flag QC and the words done.
+pub struct State {
+    pub qc: bool,
+    pub done: usize,
+}
+
+// What one word's step answers: the state to go on with, or why the run ends.
+pub enum Stepped {
+    Next(State),
+    Stopped(Ending),
+}
+
+impl State {
+    pub fn new(qc: bool) -> State
+        ensures { λ r. ⌜ (r .qc ≡ qc) × (r .done ≡ 0) ⌝ }
+    {
+        State { qc, done: 0 }
+    }
+
+    // One word more, and the flag set where a lane was clamped. `run_words` stops at 4,096 words.
+    pub fn counted(self, clamped: bool) -> State
+        requires { ⌜ self .done < 4096 ⌝ }
+        ensures { λ r. ⌜ (r .qc ≡ (self .qc || clamped)) × (r .done ≡ self .done + 1) ⌝ }
+    {
+        State {
+            qc: if self.qc { true } else { clamped },
+            done: self.done + 1,
+        }
+    }
+}

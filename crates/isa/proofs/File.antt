@@ -1,0 +1,104 @@
+-- The register file of a legal vector length, byte by byte. `legal-exact`: what `legal` tests. `fileOf-length`: the file of registers has 4 x L bytes.
+-- `fileOf-at`: its bytes are theirs. `fileOf-bytes`: a file of 4 x L bytes is the file of its bytes. `fileOf-cong` and `byteAt-ext`: a file is known by
+-- its bytes in registers 0 to 31. `bytes-same`: past register 31 any two files are the same. Assumes nothing.
+use mathlib.Core.Path.{_≡_, refl, sym, ap, ap₂, _∙_}
+use Prim.Native.Nat.{ℕ, zero, suc, _+_, _*_, _/_, _%_, _<_, _≤_}
+use native.Mathlib.Omega.{arith}
+use native.Mathlib.Nat.{mul-le-mul-right, div-lt-iff-lt-mul, mod-lt, div-add-mod'}
+use mathlib.Core.List.{List, _∷_}
+use mathlib.Core.Bool.{Bool, true, false}
+use lib.ListN.{length, getD, List·getD-eq-default}
+use lib.Seq.{ext-getD}
+use lib.Arith.{digits-lt, digits-div, digits-mod}
+use lib.Dec.{ltb, leb, eqb}
+use borrow.Author.Tests.{ltb-true, ltb-false, leb-true, eqb-true, le-leb, eq-eqb}
+use Rattle.isa.specs.Register.{Regs}
+use Rattle.isa.specs.File.{legal, tabulate, byteAt, fileOf}
+use Rattle.isa.proofs.Fields.{and-left, and-right}
+
+-- both outcomes of a test
+pub cases : {A : Type 0} (t : Bool) → (t ≡ true → A) → (t ≡ false → A) → A
+cases true if-true if-false = if-true refl
+cases false if-true if-false = if-false refl
+
+-- ---- legal lengths
+
+pub record Legal (L : ℕ) : Type 0 where
+  pub whole : L % 128 ≡ 0
+  pub least : 128 ≤ L
+  pub most : L ≤ 2048
+
+pub legal-exact : (L : ℕ) → (legal L ≡ true → Legal L) × (Legal L → legal L ≡ true)
+unfolding legal
+legal-exact L = (
+  (λ e. record {
+    whole = eqb-true (L % 128) 0 (and-left (eqb (L % 128) 0) _ e);
+    least = leb-true 128 L (and-left (leb 128 L) _ (and-right (eqb (L % 128) 0) _ e));
+    most = leb-true L 2048 (and-right (leb 128 L) _ (and-right (eqb (L % 128) 0) _ e));
+  }),
+  (λ l. rw (eq-eqb (L % 128) 0 (l .whole), le-leb 128 L (l .least), le-leb L 2048 (l .most))),
+)
+
+-- ---- lists by their places
+
+tabulate-length : (n : ℕ) (f : ℕ → ℕ) → length (tabulate n f) ≡ n
+unfolding tabulate
+tabulate-length zero f = refl
+tabulate-length (suc n) f = ap suc (tabulate-length n (λ i. f (suc i)))
+
+tabulate-at : (n : ℕ) (f : ℕ → ℕ) (i : ℕ) → i < n → getD (tabulate n f) i 0 ≡ f i
+unfolding tabulate
+tabulate-at zero f i h = absurd (omega arith)
+tabulate-at (suc n) f zero h = refl
+tabulate-at (suc n) f (suc i) h = tabulate-at n (λ i. f (suc i)) i (omega arith)
+
+tabulate-cong : (n : ℕ) (f g : ℕ → ℕ) → ((i : ℕ) → i < n → f i ≡ g i) → tabulate n f ≡ tabulate n g
+unfolding tabulate
+tabulate-cong zero f g h = refl
+tabulate-cong (suc n) f g h = ap₂ _∷_ (h 0 (omega arith)) (tabulate-cong n (λ i. f (suc i)) (λ i. g (suc i)) (λ i l. h (suc i) (omega arith)))
+
+-- ---- files
+
+pub fileOf-length : (L : ℕ) (regs : Regs) → length (fileOf L regs) ≡ 4 * L
+unfolding fileOf
+fileOf-length L regs = tabulate-length (4 * L) _
+
+module _ (L : ℕ) (ok : legal L ≡ true) where
+  pub fileOf-at : (regs : Regs) (r j : ℕ) → r < 32 → j < L / 8 → byteAt L (fileOf L regs) r j ≡ regs r j
+  unfolding fileOf byteAt
+  fileOf-at regs r j h l =
+      let whole = legal-exact L .0 ok .whole in
+      tabulate-at (4 * L) _ (r * (L / 8) + j) (omega (arith, digits-lt h l)) ∙ ap₂ regs (digits-div r l) (digits-mod r l)
+
+  pub fileOf-cong : (r₁ r₂ : Regs) → ((r j : ℕ) → r < 32 → j < L / 8 → r₁ r j ≡ r₂ r j) → fileOf L r₁ ≡ fileOf L r₂
+  unfolding fileOf
+  fileOf-cong r₁ r₂ same =
+      let length = legal-exact L .0 ok in
+      let some : 0 < L / 8 = omega arith in
+      tabulate-cong (4 * L) _ _ (λ i h. same (i / (L / 8)) (i % (L / 8)) (div-lt-iff-lt-mul some .1 (omega arith)) (mod-lt i some))
+
+  pub fileOf-bytes : (file : List ℕ) → length file ≡ 4 * L → fileOf L (byteAt L file) ≡ file
+  unfolding fileOf byteAt
+  fileOf-bytes file size =
+      ext-getD 0 _ file (fileOf-length L (byteAt L file) ∙ sym size)
+      (λ i h. tabulate-at (4 * L) _ i (omega (arith, fileOf-length L (byteAt L file))) ∙ ap (λ m. getD file m 0) (div-add-mod' i (L / 8)))
+
+  pub byteAt-ext : (f₁ f₂ : List ℕ) → length f₁ ≡ 4 * L → length f₂ ≡ 4 * L →
+      ((r j : ℕ) → r < 32 → j < L / 8 → byteAt L f₁ r j ≡ byteAt L f₂ r j) → f₁ ≡ f₂
+  byteAt-ext f₁ f₂ size₁ size₂ same = sym (fileOf-bytes f₁ size₁) ∙ fileOf-cong (byteAt L f₁) (byteAt L f₂) same ∙ fileOf-bytes f₂ size₂
+
+  -- past register 31 there is nothing
+  pub byteAt-past : (file : List ℕ) → length file ≡ 4 * L → (r j : ℕ) → 32 ≤ r → byteAt L file r j ≡ 0
+  unfolding byteAt
+  byteAt-past file size r j h =
+      let whole = legal-exact L .0 ok .whole in
+      List·getD-eq-default file 0 (omega (arith, mul-le-mul-right (L / 8) h))
+
+-- so two bytes of one register in two files are the same where they are for registers 0 to 31
+pub bytes-same : (L₁ L₂ : ℕ) → legal L₁ ≡ true → legal L₂ ≡ true → (f₁ f₂ : List ℕ) → length f₁ ≡ 4 * L₁ → length f₂ ≡ 4 * L₂ →
+    (r j₁ j₂ : ℕ) → (r < 32 → byteAt L₁ f₁ r j₁ ≡ byteAt L₂ f₂ r j₂) → byteAt L₁ f₁ r j₁ ≡ byteAt L₂ f₂ r j₂
+bytes-same L₁ L₂ ok₁ ok₂ f₁ f₂ size₁ size₂ r j₁ j₂ same =
+    cases (ltb r 32) (λ e. same (ltb-true r 32 e))
+    (λ e.
+    let past = ltb-false r 32 e in
+    byteAt-past L₁ ok₁ f₁ size₁ r j₁ past ∙ sym (byteAt-past L₂ ok₂ f₂ size₂ r j₂ past))

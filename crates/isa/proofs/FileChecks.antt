@@ -1,0 +1,99 @@
+-- What the checks of a vector length, a file's size and a register's number answer. `check-length`, `check-size`, `check-passed`: 1, 2 and 0, by what
+-- holds. `passed-exact`: what a check that passed tells. `register-ends`: a register handed out ends within the file. Assumes nothing.
+use mathlib.Core.Path.{_≡_, refl}
+use Prim.Native.Nat.{ℕ, _+_, _*_, _/_, _-_, _<_, _≤_}
+use native.Mathlib.Omega.{arith}
+use native.Mathlib.Nat.{mul-le-mul-right, add-sub-cancel-left}
+use mathlib.Core.List.{List, []}
+use mathlib.Core.Bool.{Bool, true, false}
+use lib.ListN.{length, take, drop}
+use lib.Dec.{ltb, eqb}
+use borrow.Author.Tests.{ltb-true, lt-ltb, le-ltb, eqb-true, eq-eqb, ne-eqb}
+use Rattle.isa.specs.declared.types.Checked.{Checked}
+use Rattle.isa.specs.File.{legal, pickChecked, checkOf, registerAfter, registerCheck, registerOf}
+use Rattle.isa.proofs.File.{Legal, legal-exact, cases}
+
+-- ---- lengths that are not legal
+
+module _ (L : ℕ) (bad : Legal L → ⊥) where
+  pub not-legal : legal L ≡ false
+  not-legal = cases (legal L) (λ e. absurd (bad (legal-exact L .0 e))) (λ e. e)
+
+-- ---- 1, then 2
+
+module _ (L size : ℕ) where
+  pub check-length : (Legal L → ⊥) → checkOf L size ≡ Checked.BadLength
+  unfolding checkOf
+  check-length bad = rw (not-legal L bad)
+
+  pub check-size : Legal L → (size ≡ 4 * L → ⊥) → checkOf L size ≡ Checked.BadSize
+  unfolding checkOf
+  check-size l ne = rw (legal-exact L .1 l, ne-eqb size (4 * L) ne)
+
+  pub check-passed : Legal L → size ≡ 4 * L → checkOf L size ≡ Checked.Passed
+  unfolding checkOf
+  check-passed l e = rw (legal-exact L .1 l, eq-eqb size (4 * L) e)
+
+  picked-size : (b : Bool) → pickChecked b Checked.Passed Checked.BadSize ≡ Checked.Passed → b ≡ true
+  picked-size true h = refl
+  picked-size false h = let z : _≡_ {A = ℕ} 0 1 = cc in absurd (omega arith)
+
+  picked-both : (a b : Bool) → pickChecked a (pickChecked b Checked.Passed Checked.BadSize) Checked.BadLength ≡ Checked.Passed → (a ≡ true) × (b ≡ true)
+  picked-both true b h = (refl, picked-size b h)
+  picked-both false b h = let z : _≡_ {A = ℕ} 0 1 = cc in absurd (omega arith)
+
+  pub passed-exact : checkOf L size ≡ Checked.Passed → (legal L ≡ true) × (size ≡ 4 * L)
+  unfolding checkOf
+  passed-exact h =
+      let both = picked-both (legal L) (eqb size (4 * L)) h in
+      (both .0, eqb-true size (4 * L) (both .1))
+
+-- ---- then 6
+
+module _ (L size r : ℕ) where
+  pub register-passed : checkOf L size ≡ Checked.Passed → r < 32 → registerCheck L size r ≡ Checked.Passed
+  unfolding registerCheck
+  register-passed e h = rw (e, lt-ltb r 32 h)
+
+  pub register-none : checkOf L size ≡ Checked.Passed → 32 ≤ r → registerCheck L size r ≡ Checked.NoRegister
+  unfolding registerCheck
+  register-none e h = rw (e, le-ltb r 32 h)
+
+  below : (b : Bool) → pickChecked b Checked.Passed Checked.NoRegister ≡ Checked.Passed → b ≡ true
+  below true h = refl
+  below false h = let z : _≡_ {A = ℕ} 0 1 = cc in absurd (omega arith)
+
+  after-passed : (k : Checked) → registerAfter k r ≡ Checked.Passed → (k ≡ Checked.Passed) × (r < 32)
+  after-passed Checked.Passed h = (refl, ltb-true r 32 (below (ltb r 32) h))
+  after-passed Checked.BadLength h = let z : _≡_ {A = ℕ} 0 1 = cc in absurd (omega arith)
+  after-passed Checked.BadSize h = let z : _≡_ {A = ℕ} 0 1 = cc in absurd (omega arith)
+  after-passed Checked.NoRegister h = let z : _≡_ {A = ℕ} 0 1 = cc in absurd (omega arith)
+
+  -- a register that is handed out: the length is short, and the register ends within the file
+  pub record Given : Type 0 where
+    pub short : L ≤ 2048
+    pub below : r < 32
+    pub ends : r * (L / 8) + L / 8 ≤ size
+
+  pub register-ends : registerCheck L size r ≡ Checked.Passed → Given
+  unfolding registerCheck
+  register-ends h =
+      let k = after-passed (checkOf L size) h in
+      let p = passed-exact L size (k .0) in
+      let l = legal-exact L .0 (p .0) in
+      record { short = l .most; below = k .1; ends = omega (arith, mul-le-mul-right (L / 8) (k .1)) }
+
+module _ (L : ℕ) (file : List ℕ) (r : ℕ) where
+  -- the part from its start to its end
+  pub register-given : registerCheck L (length file) r ≡ Checked.Passed →
+      take (r * (L / 8) + L / 8 - r * (L / 8)) (drop (r * (L / 8)) file) ≡ registerOf L file r
+  unfolding registerOf
+  register-given e = rw (e, add-sub-cancel-left (r * (L / 8)) (L / 8))
+
+  -- a refusal hands out the empty part
+  pub register-refused : (k : Checked) → registerCheck L (length file) r ≡ k → (k ≡ Checked.Passed → ⊥) → [] ≡ registerOf L file r
+  unfolding registerOf
+  register-refused Checked.Passed e bad = absurd (bad refl)
+  register-refused Checked.BadLength e bad = rw e
+  register-refused Checked.BadSize e bad = rw e
+  register-refused Checked.NoRegister e bad = rw e

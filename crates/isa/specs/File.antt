@@ -1,0 +1,55 @@
+-- The register file of a vector length L: 4 x L bytes, registers 0 to 31 in order, L/8 bytes each.
+use Prim.Native.Nat.{ℕ, zero, suc, _+_, _*_, _/_, _%_}
+use mathlib.Core.List.{List, [], _∷_}
+use mathlib.Core.Bool.{Bool, true, false, _&&_}
+use lib.Dec.{leb, ltb, eqb}
+use lib.ListN.{length, getD, take, drop}
+use Rattle.isa.specs.Register.{Regs}
+use Rattle.isa.specs.declared.types.Checked.{Checked}
+
+-- a vector length in bits: a multiple of 128, from 128 to 2,048
+unfoldable pub legal : ℕ → Bool
+legal L = eqb (L % 128) 0 && (leb 128 L && leb L 2048)
+
+-- f 0, f 1, .., n numbers
+unfoldable pub tabulate : ℕ → (ℕ → ℕ) → List ℕ
+tabulate zero f = []
+tabulate (suc n) f = f 0 ∷ tabulate n (λ i. f (suc i))
+
+-- byte j of register r in a file of vector length L
+unfoldable pub byteAt : ℕ → List ℕ → Regs
+byteAt L file r j = getD file (r * (L / 8) + j) 0
+
+-- the file of vector length L that holds the registers
+unfoldable pub fileOf : ℕ → Regs → List ℕ
+fileOf L regs = tabulate (4 * L) (λ i. regs (i / (L / 8)) (i % (L / 8)))
+
+-- ---- one register's part
+
+abbrev pub pickChecked : Bool → Checked → Checked → Checked
+pickChecked true a b = a
+pickChecked false a b = b
+
+-- 1, then 2
+unfoldable pub checkOf : ℕ → ℕ → Checked
+checkOf L size = pickChecked (legal L) (pickChecked (eqb size (4 * L)) Checked.Passed Checked.BadSize) Checked.BadLength
+
+-- then 6
+abbrev pub registerAfter : Checked → ℕ → Checked
+registerAfter Checked.Passed r = pickChecked (ltb r 32) Checked.Passed Checked.NoRegister
+registerAfter Checked.BadLength r = Checked.BadLength
+registerAfter Checked.BadSize r = Checked.BadSize
+registerAfter Checked.NoRegister r = Checked.NoRegister
+
+unfoldable pub registerCheck : ℕ → ℕ → ℕ → Checked
+registerCheck L size r = registerAfter (checkOf L size) r
+
+abbrev pub partIf : Checked → List ℕ → List ℕ
+partIf Checked.Passed part = part
+partIf Checked.BadLength part = []
+partIf Checked.BadSize part = []
+partIf Checked.NoRegister part = []
+
+-- the bytes of register r, nothing on a refusal
+unfoldable pub registerOf : ℕ → List ℕ → ℕ → List ℕ
+registerOf L file r = partIf (registerCheck L (length file) r) (take (L / 8) (drop (r * (L / 8)) file))

@@ -1,0 +1,3 @@
+pub mod Bytes
+pub mod Place
+pub mod Refused

@@ -1,0 +1,19 @@
+-- A check whose answer is one of the refusals did not pass. Assumes nothing.
+use mathlib.Core.Path.{_≡_}
+use mathlib.Core.Logic.{⊎-elim}
+use mathlib.Core.List.{[], _∷_}
+use Prim.Native.Nat.{ℕ, _<_}
+use native.Mathlib.Omega.{arith}
+use types.Run.{OneOf}
+use denote.Enum.Declared.{tagOf}
+use Rattle.isa.proofs.types.Checked.{the-type}
+use Rattle.isa.specs.declared.types.Checked.{Checked}
+
+tag-above : (x : ℕ) → OneOf (1 ∷ 2 ∷ 3 ∷ []) x → 0 < x
+tag-above x h = ⊎-elim (λ e. omega arith) (λ r. ⊎-elim (λ e. omega arith) (λ e. omega arith) r) h
+
+pub refused : (k : Checked) → OneOf (1 ∷ 2 ∷ 3 ∷ []) (tagOf the-type k) → k ≡ Checked.Passed → ⊥
+refused Checked.Passed h e = let z = tag-above 0 h in omega arith
+refused Checked.BadLength h e = let z : _≡_ {A = ℕ} 0 1 = cc in omega arith
+refused Checked.BadSize h e = let z : _≡_ {A = ℕ} 0 1 = cc in omega arith
+refused Checked.NoRegister h e = let z : _≡_ {A = ℕ} 0 1 = cc in omega arith

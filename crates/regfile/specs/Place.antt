@@ -1,0 +1,14 @@
+-- What the search for a register's place relies on.
+use mathlib.Core.Path.{_≡_}
+use Prim.Native.Nat.{ℕ, _*_, _/_, _<_, _≤_}
+
+-- a register's bytes are at most 256, and its number is below 32
+pub record Short (w n : ℕ) : Type 0 where
+  pub width : w ≤ 256
+  pub number : n < 32
+
+-- the product without n's last bit
+pub record Half (half w n : ℕ) : Type 0 where
+  pub width : w ≤ 256
+  pub number : n < 32
+  pub made : half ≡ n / 2 * w

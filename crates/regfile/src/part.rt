@@ -1,0 +1,54 @@
+// Where a register stands, and its part of the file.
+ghost use mathlib.Core.Path.{_≡_};
+ghost use Prim.Native.Nat.{_*_, _<_, _≤_};
+ghost use Rattle.isa.specs.File.{registerOf};
+ghost use Rattle.regfile.specs.Place.{Half, Short};
+use crate::check::check_register;
+use isa::types::Checked;
+
+// n * w from n / 2 * w. Called by `offset`, with the leading bits of its n.
+fn appended(half: usize, w: usize, n: usize) -> usize
+    requires { ⌜ Half half w n ⌝ }
+    ensures { λ r. ⌜ r ≡ n * w ⌝ }
+{
+    let twice = half + half;
+    if n % 2 == 0 { twice } else { twice + w }
+}
+
+// n * w, by the five bits of n: where register n starts among registers of w bytes. Callers have a checked length and a checked number.
+pub fn offset(w: usize, n: usize) -> usize
+    requires { ⌜ Short w n ⌝ }
+    ensures { λ r. ⌜ r ≡ n * w ⌝ }
+{
+    let a = appended(0, w, n >> 4);
+    let b = appended(a, w, n >> 3);
+    let c = appended(b, w, n >> 2);
+    let d = appended(c, w, n >> 1);
+    appended(d, w, n)
+}
+
+// The part of the file for register n, to read and to fill; an empty part on a refusal.
+pub fn register(l: usize, file: &mut [u8], n: usize) -> &mut [u8]
+    ensures { λ r. ⌜ now r ≡ registerOf l (now (file .entry)) n ⌝ }
+{
+    let Checked::Passed = check_register(l, file.len(), n) else {
+        return &mut file[0..0];
+    };
+    let w = l >> 3;
+    let a = offset(w, n);
+    let e = a + w;
+    &mut file[a..e]
+}
+
+// The same to read only.
+pub fn register_read(l: usize, file: &[u8], n: usize) -> &[u8]
+    ensures { λ r. ⌜ now r ≡ registerOf l (now (file .entry)) n ⌝ }
+{
+    let Checked::Passed = check_register(l, file.len(), n) else {
+        return &file[0..0];
+    };
+    let w = l >> 3;
+    let a = offset(w, n);
+    let e = a + w;
+    &file[a..e]
+}

@@ -1,0 +1,217 @@
+"""The stored cases of the program cases: runs of programs, refused ones among them.
+
+A record begins with five little-endian numbers of 4 bytes: the vector length, the bytes of the file,
+the flag, the words, and a seed. Then come the file's bytes where the seed is 0 (any other seed makes
+them, as below), and the words. A line of the answer has document 01's number, the words done, the
+flag and a digest of the file that is left.
+"""
+
+import struct
+from functools import lru_cache
+
+import execution
+import kernel_cases
+import lanes
+import model
+from execution import LENGTHS, MOST_WORDS
+from model import ADDS, ELEMENT, TABLE
+
+MOST_BYTES = 4 * 2176  # of a file: that of the first multiple of 128 that is too long
+START = 0x9E3779B97F4A7C15
+SEEDS = range(1, 97)
+
+
+# ---- what the program does too: bytes from a seed, and the digest
+
+
+def following(x):
+    """Marsaglia's xorshift of 64 bits: it goes through all numbers but 0."""
+    x ^= x << 13 & 2**64 - 1
+    x ^= x >> 7
+    return x ^ (x << 17 & 2**64 - 1)
+
+
+@lru_cache(maxsize=None)
+def bytes_from(seed):
+    """A file's bytes. Of its lanes, 1, 2, 4 or 8 bytes wide by the seed, half are edges."""
+    width = 1 << seed % 4
+    made = bytearray()
+    x = START ^ seed
+    for at in range(MOST_BYTES):
+        x = following(x)
+        top = at % width == width - 1
+        if at % width == 0:
+            kind = x >> 32 & 7
+        if kind == 0:
+            made.append(0)
+        elif kind == 1:
+            made.append(0x7F if top else 0xFF)  # the highest number
+        elif kind == 2:
+            made.append(0x80 if top else 0)  # the lowest
+        elif kind == 3:
+            made.append(0xFF)
+        else:
+            made.append(x & 0xFF)
+    return bytes(made)
+
+
+def digest(file):
+    """Each byte is mixed in and the whole moved on, so that its place counts."""
+    x, all_bits = START, 2**64 - 1
+    for byte in file:  # following, written out: much of the time goes here
+        x ^= byte
+        x ^= x << 13 & all_bits
+        x ^= x >> 7
+        x ^= x << 17 & all_bits
+    return x
+
+
+# ---- the cases
+
+
+def case(length, size, flag, words, seed=0, file=None):
+    """The record and the line."""
+    head = struct.pack("<5I", length, size, flag, len(words), seed)
+    if seed:
+        file = bytes_from(seed)[:size]
+    ran = execution.run(length, file, bool(flag), words)
+    record = head + (b"" if seed else file) + struct.pack(f"<{len(words)}I", *words)
+    return record, f"{ran.number} {ran.done} {int(ran.flag)} {digest(ran.file):016x}\n"
+
+
+class Maker:
+    def __init__(self, source):
+        self.source = source
+        self.operations = list(kernel_cases.operations())
+
+    def seeded(self, length, words, flag=None, size=None):
+        if flag is None:
+            flag = self.source.below(2)
+        size = 4 * length if size is None else size
+        return case(length, size, flag, words, self.source.choose(SEEDS))
+
+    def length(self):
+        """Any legal length, the shorter more often."""
+        return LENGTHS[self.source.below(1 + self.source.below(16))]
+
+    def registers(self, op):
+        """The operation with any registers within its limits, at their edges as often as not."""
+        chosen = []
+        for limit in model.limits_of(op.family, op.size)[:3]:
+            limit = limit or 0
+            choices = model.edges(limit) if self.source.below(2) else range(limit + 1)
+            chosen.append(self.source.choose(choices))
+        return op._replace(destination=chosen[0], first=chosen[1], second=chosen[2])
+
+    def word(self, op):
+        return model.encode(op)[1]
+
+    def outside(self):
+        """A word that is near a row, and belongs to none."""
+        while True:
+            row = self.source.choose(TABLE)
+            fixed = [2**bit for bit in range(32) if row.fixed >> bit & 1]
+            word = self.source.of_row(row) ^ self.source.choose(fixed)
+            if model.decode(word) == model.OUTSIDE:
+                return word
+
+    def reserved(self):
+        row = self.source.choose([row for row in TABLE if row.family in ELEMENT])
+        return self.source.of_row(row) & ~(3 << 22) | self.source.choose((0, 3)) << 22
+
+    def good(self):
+        """A word of any family, each as often as the others."""
+        family = self.source.below(8)
+        ops = [op for op in self.operations if op.family == family]
+        return self.word(self.registers(self.source.choose(ops)))
+
+    # -- groups of cases
+
+    def single(self):
+        """Every operation at eight lengths, and so every family and size at all of them."""
+        for at, op in enumerate(self.operations):
+            for k in range(8):
+                length = LENGTHS[(at + 2 * k) % 16]
+                yield self.seeded(length, [self.word(self.registers(op))], k % 2)
+
+    def coinciding(self):
+        """Every operation with its registers one, in each way."""
+        for op in self.operations:
+            most = model.limits_of(op.family, op.size)[2]
+            for same in ("dm",) if op.family in ADDS else ("dn", "dm", "nm", "dnm"):
+                one = self.source.below(most + 1)
+                other = (one + 1 + self.source.below(most)) % (most + 1)
+                d, n, m = (one if place in same else other for place in "dnm")
+                if op.family in ADDS:
+                    n = 0
+                word = self.word(op._replace(destination=d, first=n, second=m))
+                yield self.seeded(self.length(), [word])
+
+    def aimed(self):
+        """Ties, bounds and edges in a stored file: m, c and n in registers 0, 8 and 16 on."""
+        for op in self.operations:
+            maker = kernel_cases.Maker(self.source, op)
+            makers = [maker.bounds] * 4 + [maker.least] + [lambda: maker.all(maker.edge)]
+            makers += [maker.ties] * 2 if op.family not in ADDS else [maker.mixed] * 2
+            made = [[lanes.data_of(x, maker.bits) for x in make()] for make in makers]
+            held = [m for _, _, m in made] + [c for c, _, _ in made] + [n for _, n, _ in made]
+            rest = bytes(self.source.below(256) for _ in range(8 * 16))
+            first = 0 if op.family in ADDS else 16
+            words = [
+                self.word(op._replace(destination=8 + k, first=first and first + k, second=k))
+                for k in range(8)
+            ]
+            yield case(128, 512, self.source.below(2), words, file=b"".join(held) + rest)
+
+    def programs(self):
+        """Several words, each working on what the one before left; some end in the middle."""
+        for length in LENGTHS:
+            for k in range(48):
+                words = [self.good() for _ in range(2 + self.source.below(9))]
+                if k % 3:
+                    stop = self.outside() if k % 3 == 1 else self.reserved()
+                    words.insert(self.source.below(len(words) + 1), stop)
+                    if k % 4 == 0:  # a second, which is not looked at
+                        words.append(self.reserved() if k % 3 == 1 else self.outside())
+                yield self.seeded(length, words)
+        for _ in range(240):
+            words = list(self.source.mix(1 + self.source.below(16)))
+            yield self.seeded(self.length(), words)
+
+    def refusals(self):
+        """Lengths, sizes and programs on either side of their limits, one or several at a time."""
+        programs = [[], [self.good()], [self.outside()], [self.reserved()]]
+        wrong = (0, 1, 64, 120, 127, 129, 136, 192, 320, 2040, 2047, 2049, 2056, 2112, 2175, 2176)
+        for length in wrong + (2304, 4096, 2**31, 2**32 - 128, 2**32 - 1):
+            for size in sorted({0, 511, 512, min(4 * length, MOST_BYTES)}):
+                yield self.seeded(length, self.source.choose(programs[:2]), 0, size)
+                yield self.seeded(length, self.source.choose(programs[2:]), 1, size)
+        for length in LENGTHS:
+            whole = 4 * length
+            for size in (0, 1, whole // 2, whole - 128, whole - 1, whole + 1, whole + 128):
+                yield self.seeded(length, self.source.choose(programs), None, size)
+            yield self.seeded(length, [], 0)
+            yield self.seeded(length, [], 1)
+
+    def long(self):
+        """Programs of about 4,096 words."""
+        many = [self.good() for _ in range(MOST_WORDS)]
+        outside = [self.outside()]
+        yield self.seeded(128, many)
+        yield self.seeded(256, many[1:] + outside)
+        yield self.seeded(128, many + many[:1])
+        yield self.seeded(2048, outside + many)
+        yield self.seeded(192, many + outside)
+        yield self.seeded(128, many + outside, None, 511)
+
+    def cases(self):
+        yield from self.single()
+        yield from self.coinciding()
+        yield from self.aimed()
+        yield from self.programs()
+        yield from self.refusals()
+        yield from self.long()
+
+
+def cases(source):
+    yield from Maker(source).cases()

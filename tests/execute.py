@@ -1,0 +1,205 @@
+#!/usr/bin/env python3
+"""Scenario tests of the program execute: what it takes, and what it says of bad input.
+
+    python3 tests/execute.py PROGRAM
+    python3 tests/execute.py PROGRAM --shown    also how changed registers are printed
+"""
+
+import os
+import subprocess
+import sys
+import tempfile
+
+PATIENCE = 60  # seconds in which a run must end by itself
+
+
+class Fault(Exception):
+    """What a scenario found to be wrong."""
+
+
+def run(stdin=None, stdout=subprocess.PIPE, data=None, **more):
+    """Runs the program, on the data if there is any, and returns what it wrote to the pipes of its two outputs."""
+    source = {"stdin": stdin} if data is None else {"input": data}
+    try:
+        done = subprocess.run(
+            [PROGRAM], **source, stdout=stdout, stderr=subprocess.PIPE, timeout=PATIENCE, **more
+        )
+    except subprocess.TimeoutExpired:
+        raise Fault(f"it did not end in {PATIENCE} s")
+    if done.returncode != 0:
+        raise Fault(f"it ended with status {done.returncode}")
+    return done.stdout, done.stderr
+
+
+def expect(got, wanted_out, wanted_err):
+    if got != (wanted_out, wanted_err):
+        raise Fault(f"it wrote {got[0][:300]!r} and said {got[1][:120]!r}")
+
+
+# ---- the kinds of scenario
+
+
+def says(text, line, what):
+    """Bad input: one line on standard error, and nothing else."""
+    expect(run(data=text), b"", b"execute: line %d: %s\n" % (line, what))
+
+
+def prints(text, *lines):
+    expect(run(data=text), b"".join(line + b"\n" for line in lines), b"")
+
+
+def empty_run(text, qc=0):
+    """A text with no word at a legal length: all of it is taken, and nothing changes."""
+    prints(text, b"answer 0 done", b"words done 0", b"qc %d" % qc)
+
+
+def illegal(text, qc=0):
+    """A text with an illegal length: all of it is taken, and nothing is run."""
+    prints(text, b"answer 1 length not legal", b"words done 0", b"qc %d" % qc)
+
+
+def says_longer(data):
+    expect(run(data=data), b"", b"execute: the input is longer than 65536 bytes\n")
+
+
+def expect_unread(**way):
+    expect(run(**way), b"", b"execute: the input could not be read\n")
+
+
+def from_folder():
+    with tempfile.TemporaryDirectory() as folder:
+        stdin = os.open(folder, os.O_RDONLY)
+        try:
+            expect_unread(stdin=stdin)
+        finally:
+            os.close(stdin)
+
+
+def from_nothing():
+    expect_unread(stdin=subprocess.DEVNULL, preexec_fn=lambda: os.close(0))
+
+
+def to_full_device():
+    with open("/dev/full", "wb") as full:
+        _, said = run(stdout=full, data=b"length 128\n")
+    if said != b"execute: the output could not be written\n":
+        raise Fault(f"it said {said[:120]!r}")
+
+
+# ---- the scenarios
+
+
+def accepted():
+    yield "a length alone", empty_run, b"length 128\n"
+    yield "no last line feed", empty_run, b"length 2048"
+    yield "comments, blank lines, spaces and tabs", empty_run, b"# a\n\n \t\n  length\t 128  # b\n qc 1#c\n#", 1
+    yield "line ends of two bytes", empty_run, b"length 128\r\nqc 1\r\nshow h\r\nz 0 00\r\n\r\n", 1
+    yield "the last qc holds", empty_run, b"length 128\nqc 1\nqc 0\n"
+    for size in (b"b", b"h", b"s", b"d"):
+        yield f"show {size.decode()}", empty_run, b"length 128\nshow " + size
+    for given in (b"", b" 00 ", b" 0aF0 0B\tc1  D2"):
+        yield f"register bytes {given}", empty_run, b"length 128\nz 31" + given
+    for length in (128, 256, 2048):
+        for register in (0, 31):
+            full = b"length %d\nz %d %s\n" % (length, register, b"5a" * (length // 8))
+            yield f"a full register {register} at {length}", empty_run, full
+            yield f"a byte more at {length}", says, full[:-1] + b" 00\n", 2, b"more bytes than a register has"
+    yield "65536 bytes", empty_run, b"length 128\n".ljust(65536, b"#")
+    yield "65536 bytes of lines", empty_run, b"length 128\n".ljust(65536, b"\n")
+
+
+def refused():
+    for length in (0, 1, 64, 127, 129, 192, 2047, 2049, 2176, 4096):
+        text = b"length %d\nz 31 %s\nword 0\n" % (length, b"ff" * (length // 8))
+        yield f"length {length}", illegal, text
+        more = text.replace(b"\nword", b" 00\nword")
+        yield f"a byte more at {length}", says, more, 2, b"more bytes than a register has"
+    for word in (b"0", b"0x0", b"4501D820", b"4501d820", b"0xFFFFFFFF", b"00000001"):
+        yield f"word {word}", illegal, b"length 127\nqc 1\nword " + word, 1
+    words = b"length 128\nqc 1\n" + b"word 0\n" * 4097
+    answer = (b"answer 3 more than 4,096 words", b"words done 0", b"qc 1")
+    yield "4097 words", prints, words, *answer
+    yield "4098 words", says, words + b"word 0", 4100, b"more than 4097 words"
+    yield "4097 words at an illegal length", illegal, words.replace(b"128", b"100"), 1
+
+
+def wrong():
+    missing = b"the text ends with no length"
+    yield "an empty text", says, b"", 1, missing
+    yield "comments alone", says, b"# a\n\n# b\n", 3, missing
+    for line in (b"word 0", b"qc 1", b"show b", b"z 0 00"):
+        yield f"{line} before the length", says, b"\n" + line, 2, b"the length must come first"
+    for line in (b"word", b"z 1 0g", b"nonsense"):
+        wanted = b"unknown statement" if line == b"nonsense" else b"the length must come first"
+        yield f"{line} at first", says, line, 1, wanted
+    after = {
+        b"unknown statement": (b"lengths 1", b"wor 0", b"words 0", b"z0 00", b"Z 0 00", b"128", b"\0", b"\xff"),
+        b"a second length": (b"length 128", b"length x"),
+        b"a number is missing": (b"qc", b"z", b"z # 1"),
+        b"not a decimal number": (b"qc x", b"qc -1", b"z a", b"z 1x", b"z 0x1"),
+        b"qc is 0 or 1": (b"qc 2", b"qc 10", b"qc 18446744073709551616"),
+        b"show takes b, h, s or d": (b"show", b"show q", b"show bb", b"show B"),
+        b"a word is missing": (b"word", b"word 0x", b"word # 0"),
+        b"a word of more than 8 digits": (b"word 123456789", b"word 0x000000000"),
+        b"a digit that is not hexadecimal": (b"word 12g4", b"word -1", b"word 0y1", b"z 1 0g", b"z 1 g0", b"z 1 00 0x"),
+        b"a register above 31": (b"z 32", b"z 99999999999999999999 00"),
+        b"a byte of one digit": (b"z 1 0", b"z 1 00 1 00", b"z 1 001#"),
+        b"more than the statement takes": (b"qc 1 1", b"show b b", b"word 0 0"),
+    }
+    for what, lines in after.items():
+        for line in lines:
+            yield f"{line}", says, b"length 128\n# a\n" + line + b"\nunknown\n", 3, what
+    for line, what in (
+        (b"length", b"a number is missing"),
+        (b"length 128 1", b"more than the statement takes"),
+        (b"length 4097", b"a length above 4096"),
+        (b"length 18446744073709551744", b"a length above 4096"),
+        (b"length 0x80", b"not a decimal number"),
+        (b"length -128", b"not a decimal number"),
+    ):
+        yield f"{line}", says, line, 1, what
+
+
+def outside_the_text():
+    yield "65537 bytes", says_longer, b"length 128\n".ljust(65537, b"#")
+    yield "65537 bytes, the last a line feed", says_longer, b"length 128\n".ljust(65536, b"#") + b"\n"
+    yield "a million bytes", says_longer, bytes(1_000_000)
+    yield "input that is a folder", from_folder
+    yield "input that is not open", from_nothing
+    yield "output that is full", to_full_device
+
+
+def shown():
+    """Case P8 of document 01 by bytes in 2 segments, and a lane of each size that becomes a - b.i = -1 - 1."""
+    two = b"length 256\nz 1 8080 0000000000000000000000000000 8080\nword 4501D820\n"
+    line = b"z0 " + b" ".join([b"7F80" + b"00" * 14] * 2)
+    yield "two groups of bytes", prints, two, b"answer 0 done", b"words done 1", b"qc 0", line
+    for number, (size, width) in enumerate(((b"b", 1), (b"h", 2), (b"s", 4), (b"d", 8))):
+        word = 0x4500D865 | number << 22  # CADD z5, z5, z3, 90
+        text = b"length 128\nshow %s\nz 5 %s\nz 3 %s 01\nword %08x\n" % (size, b"ff" * width, b"00" * width, word)
+        line = b"z5 -2" + b" 0" * (16 // width - 1)
+        yield f"lanes {size}", prints, text, b"answer 0 done", b"words done 1", b"qc 0", line
+        least = b"length 128\nshow %s\nz 3 %s80\nword %08x\n" % (size, b"00" * (width - 1), word)
+        line = b"z5 0 %d" % -(1 << 8 * width - 1) + b" 0" * (16 // width - 2)
+        yield f"the least lane {size}", prints, least, b"answer 0 done", b"words done 1", b"qc 0", line
+
+
+def main(parts):
+    tried = failed = 0
+    for part in parts:
+        for name, test, *arguments in part():
+            tried += 1
+            try:
+                test(*arguments)
+            except (Fault, OSError) as fault:
+                failed += 1
+                print(f"execute: {name}: {fault}", flush=True)
+    print(f"execute: {tried} scenarios, {failed} failed")
+    return 1 if failed else 0
+
+
+if __name__ == "__main__":
+    if len(sys.argv) < 2 or sys.argv[2:] not in ([], ["--shown"]):
+        sys.exit("usage: python3 tests/execute.py PROGRAM [--shown]")
+    PROGRAM = os.path.abspath(sys.argv[1])
+    sys.exit(main([accepted, refused, wrong, outside_the_text] + ([shown] if sys.argv[2:] else [])))
