@@ -1,4 +1,4 @@
--- From a kernel's segment to the operation's. `sized`, `indexed-half`, `indexed-single`, `element-half`, `element-single`: the kernel of the size that was
+-- From a kernel's segment to the operation's. `indexed-half`, `indexed-single`, `element-half`, `element-single`: the kernel of the size that was
 -- matched. `made-by`, `made-flag`: the operation that was matched. `not-by-element`, `not-sve`: arms that no operation handed over reaches.
 -- Assumes nothing.
 use mathlib.Core.Path.{_≡_, refl, sym, ap, subst, _∙_}
