@@ -1,0 +1,164 @@
+/* The C half of the benchmark (bench/run builds and starts it).
+ *
+ *   bench time ROUNDS LENGTH...      a line for each row and length: the row, the length, and the
+ *                                    nanoseconds an instruction of the archive and of plain C
+ *   bench count SIDE ROW LENGTH      runs a program once, for a tool that counts instructions
+ *   bench rows                       the names of the rows
+ *   bench words ROW                  the program of a row, as little-endian words
+ *
+ * A program has 4,096 words of one row, with every rotation and index. The registers of a word are
+ * drawn anew and differ from one another: compiled C loops fall back to slow code where they coincide. */
+
+#define _DEFAULT_SOURCE
+#include <stdio.h>
+#include <stdlib.h>
+#include <string.h>
+#include <time.h>
+
+#include "kobbeskuim.h"
+#include "plain.h"
+
+enum { WORDS = 4096, MOST_FILE = 8192 };
+
+typedef uint64_t run(size_t l, uint8_t *file, size_t file_len, bool qc, const uint32_t *words,
+                     size_t words_len);
+
+static run *const sides[] = {kob_run, plain_run};
+
+/* A row's word with all its fields 0, and the bits that the registers are not in and that vary. */
+static const struct row {
+    const char *name;
+    uint32_t base, varies;
+} rows[] = {
+    {"CADD .B", 0x4500D800, 0x400},
+    {"CADD .H", 0x4540D800, 0x400},
+    {"CADD .S", 0x4580D800, 0x400},
+    {"CADD .D", 0x45C0D800, 0x400},
+    {"SQCADD .B", 0x4501D800, 0x400},
+    {"SQCADD .H", 0x4541D800, 0x400},
+    {"SQCADD .S", 0x4581D800, 0x400},
+    {"SQCADD .D", 0x45C1D800, 0x400},
+    {"CMLA .B", 0x44002000, 0xC00},
+    {"CMLA .H", 0x44402000, 0xC00},
+    {"CMLA .S", 0x44802000, 0xC00},
+    {"CMLA .D", 0x44C02000, 0xC00},
+    {"CMLA-I .H", 0x44A06000, 0x180C00},
+    {"CMLA-I .S", 0x44E06000, 0x100C00},
+    {"SQRDCMLAH .B", 0x44003000, 0xC00},
+    {"SQRDCMLAH .H", 0x44403000, 0xC00},
+    {"SQRDCMLAH .S", 0x44803000, 0xC00},
+    {"SQRDCMLAH .D", 0x44C03000, 0xC00},
+    {"SQRDCMLAH-I .H", 0x44A07000, 0x180C00},
+    {"SQRDCMLAH-I .S", 0x44E07000, 0x100C00},
+    {"SQRDMLAH .H scalar", 0x7F40D000, 0x300800},
+    {"SQRDMLAH .H 64", 0x2F40D000, 0x300800},
+    {"SQRDMLAH .H 128", 0x6F40D000, 0x300800},
+    {"SQRDMLAH .S scalar", 0x7F80D000, 0x200800},
+    {"SQRDMLAH .S 64", 0x2F80D000, 0x200800},
+    {"SQRDMLAH .S 128", 0x6F80D000, 0x200800},
+    {"SQRDMLSH .H scalar", 0x7F40F000, 0x300800},
+    {"SQRDMLSH .H 64", 0x2F40F000, 0x300800},
+    {"SQRDMLSH .H 128", 0x6F40F000, 0x300800},
+    {"SQRDMLSH .S scalar", 0x7F80F000, 0x200800},
+    {"SQRDMLSH .S 64", 0x2F80F000, 0x200800},
+    {"SQRDMLSH .S 128", 0x6F80F000, 0x200800},
+    {"all, mixed", 0, 0},
+};
+
+enum { ROWS = sizeof rows / sizeof *rows, MIXED = ROWS - 1 };
+
+static uint64_t seed = 0x9E3779B97F4A7C15;
+
+static uint64_t next(void)
+{
+    seed ^= seed >> 12;
+    seed ^= seed << 25;
+    seed ^= seed >> 27;
+    return seed * 0x2545F4914F6CDD1D;
+}
+
+/* The second source stays within 7, which every row has room for. */
+static uint32_t word_of(const struct row *row)
+{
+    uint32_t m = next() >> 61, n, d;
+    do
+        n = next() >> 59;
+    while (n == m);
+    do
+        d = next() >> 59;
+    while (d == m || d == n);
+    uint32_t registers = row->base >> 24 == 0x45 ? m << 5 | d : m << 16 | n << 5 | d;
+    return row->base | registers | ((uint32_t)next() & row->varies);
+}
+
+static void program(int row, uint32_t *words)
+{
+    for (int k = 0; k < WORDS; k++)
+        words[k] = word_of(&rows[row == MIXED ? next() % MIXED : (uint64_t)row]);
+}
+
+static uint8_t fresh[MOST_FILE], file[MOST_FILE];
+
+/* One run on random bytes. */
+static double seconds(int side, const uint32_t *words, size_t l)
+{
+    struct timespec a, b;
+    memcpy(file, fresh, 4 * l);
+    clock_gettime(CLOCK_MONOTONIC, &a);
+    uint64_t answer = sides[side](l, file, 4 * l, false, words, WORDS);
+    clock_gettime(CLOCK_MONOTONIC, &b);
+    if (answer >> 16 != WORDS) {
+        fprintf(stderr, "bench: a program did not reach its end\n");
+        exit(1);
+    }
+    return b.tv_sec - a.tv_sec + 1e-9 * (b.tv_nsec - a.tv_nsec);
+}
+
+/* The sides take turns, and all rows come before the next round: a busy spell of the machine meets
+ * every row and both sides a little, and the best run of each counts. */
+static void times(int rounds, int lengths, char **given)
+{
+    static uint32_t words[ROWS][WORDS];
+    double best[ROWS][16][2];
+    for (int row = 0; row < ROWS; row++) {
+        program(row, words[row]);
+        for (int k = 0; k < 16; k++)
+            best[row][k][0] = best[row][k][1] = 1e9;
+    }
+    for (int round = 0; round < rounds; round++)
+        for (int row = 0; row < ROWS; row++)
+            for (int k = 0; k < lengths; k++)
+                for (int turn = 0; turn < 6; turn++) {
+                    double taken = seconds(turn % 2, words[row], atoi(given[k]));
+                    if (taken < best[row][k][turn % 2])
+                        best[row][k][turn % 2] = taken;
+                }
+    for (int row = 0; row < ROWS; row++)
+        for (int k = 0; k < lengths; k++)
+            printf("%s\t%s\t%.3f\t%.3f\n", rows[row].name, given[k], 1e9 * best[row][k][0] / WORDS,
+                   1e9 * best[row][k][1] / WORDS);
+}
+
+int main(int count, char **given)
+{
+    for (size_t k = 0; k < sizeof fresh; k++)
+        fresh[k] = next() >> 56;
+    const char *what = count > 1 ? given[1] : "";
+    static uint32_t words[WORDS];
+    if (count >= 4 && count <= 19 && !strcmp(what, "time")) {
+        times(atoi(given[2]), count - 3, given + 3);
+    } else if (count == 5 && !strcmp(what, "count")) {
+        program(atoi(given[3]), words);
+        seconds(atoi(given[2]), words, atoi(given[4]));
+    } else if (count == 2 && !strcmp(what, "rows")) {
+        for (int row = 0; row < ROWS; row++)
+            puts(rows[row].name);
+    } else if (count == 3 && !strcmp(what, "words")) {
+        program(atoi(given[2]), words);
+        fwrite(words, sizeof words, 1, stdout);
+    } else {
+        fprintf(stderr, "usage: bench time ROUNDS LENGTH... | count SIDE ROW LENGTH | rows | words ROW\n");
+        return 2;
+    }
+    return 0;
+}

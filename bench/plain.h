@@ -1,0 +1,16 @@
+/* The library's C interface once more, as a C programmer would write it: see plain.c. */
+#ifndef PLAIN_H
+#define PLAIN_H
+
+#include <stdbool.h>
+#include <stddef.h>
+#include <stdint.h>
+
+/* Document 01's number in bits 0 to 7, the flag in bit 8, the words done in bits 16 to 31. */
+uint64_t plain_run(size_t l, uint8_t *file, size_t file_len, bool qc, const uint32_t *words,
+                   size_t words_len);
+
+/* 0 with the eight fields, 4 or 5 with none. */
+uint32_t plain_decode(uint32_t word, uint32_t fields[8]);
+
+#endif

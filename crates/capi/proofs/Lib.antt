@@ -1,0 +1,7 @@
+pub mod Place
+pub mod Listing
+pub mod Put
+pub mod Decoded
+pub mod Named
+pub mod RoundTrip
+pub mod Ran

@@ -1,0 +1,67 @@
+-- What `kob_register` answers, and that its start and length cut out the register's part. Assumes nothing.
+use mathlib.Core.Path.{_≡_, refl, sym, ap, subst, _∙_}
+use Prim.Native.Nat.{ℕ, _+_, _*_, _/_, _%_, _<_, _≤_}
+use native.Mathlib.Nat.{mul-le-mul}
+use native.Mathlib.Omega.{arith}
+use mathlib.Core.List.{List, []}
+use lib.ListN.{length, take, drop}
+use Rattle.isa.specs.declared.types.Checked.{Checked}
+use Rattle.isa.specs.File.{registerCheck, registerOf, partIf}
+use Rattle.isa.specs.Number.{checkedNumber}
+use Rattle.isa.proofs.FileChecks.{register-ends}
+use Rattle.capi.specs.Register.{Place, partNumber, packedCheck, registerCall}
+
+refused-number : (k : Checked) (part : ℕ) → (k ≡ Checked.Passed → ⊥) → checkedNumber k ≡ packedCheck k part
+refused-number Checked.Passed part ne = absurd (ne refl)
+refused-number Checked.BadLength part ne = refl
+refused-number Checked.BadSize part ne = refl
+refused-number Checked.NoRegister part ne = refl
+
+module _ (L size n : ℕ) where
+  pub register-refused : {k : Checked} → k ≡ registerCheck L size n → (k ≡ Checked.Passed → ⊥) → checkedNumber k ≡ registerCall L size n
+  unfolding registerCall
+  register-refused {k} e ne = refused-number k (partNumber (n * (L / 8)) (L / 8)) ne ∙ ap (λ (x : Checked). packedCheck x (partNumber (n * (L / 8)) (L / 8))) e
+
+  module _ (e : registerCheck L size n ≡ Checked.Passed) where
+    pub register-passed : partNumber (n * (L / 8)) (L / 8) ≡ registerCall L size n
+    unfolding registerCall checkedNumber
+    register-passed = rw e (omega arith)
+
+    pub register-place : Place (n * (L / 8)) (L / 8)
+    register-place =
+        let g = register-ends L size n e in
+        let wide : L / 8 ≤ 256 = omega (arith, g .short) in
+        let below : n ≤ 31 = omega (arith, g .below) in
+        let most : n * (L / 8) ≤ 31 * 256 = mul-le-mul below wide in
+        record { start-fits = omega arith; length-fits = omega arith }
+
+zero-plus : (x : ℕ) → x ≡ 0 + x
+zero-plus x = omega arith
+
+part-start : (s l : ℕ) → Place s l → partNumber s l / 0x1_0000 % 0x100_0000 ≡ s
+unfolding partNumber
+part-start s l p = omega arith
+
+part-length : (s l : ℕ) → Place s l → partNumber s l / 0x100_0000_0000 ≡ l
+unfolding partNumber
+part-length s l p = omega arith
+
+module _ (L : ℕ) (file : List ℕ) (n : ℕ) where
+  -- what the start and the length of a number cut out of the file
+  abbrev cut : ℕ → List ℕ
+  cut answer = take (answer / 0x100_0000_0000) (drop (answer / 0x1_0000 % 0x100_0000) file)
+
+  cut-checked : (k : Checked) → registerCheck L (length file) n ≡ k → registerOf L file n ≡ cut (registerCall L (length file) n)
+  unfolding registerOf registerCall checkedNumber
+  cut-checked Checked.Passed e =
+      let p = register-place L (length file) n e in
+      rw e
+      (ap (λ (l : ℕ). take l (drop (n * (L / 8)) file)) (sym (part-length (n * (L / 8)) (L / 8) p))
+      ∙ ap (λ (s : ℕ). take (partNumber (n * (L / 8)) (L / 8) / 0x100_0000_0000) (drop s file)) (sym (part-start (n * (L / 8)) (L / 8) p))
+      ∙ ap cut (zero-plus (partNumber (n * (L / 8)) (L / 8))))
+  cut-checked Checked.BadLength e = rw e
+  cut-checked Checked.BadSize e = rw e
+  cut-checked Checked.NoRegister e = rw e
+
+  pub register-cut : registerOf L file n ≡ cut (registerCall L (length file) n)
+  register-cut = cut-checked (registerCheck L (length file) n) refl

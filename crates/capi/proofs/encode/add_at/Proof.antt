@@ -1,0 +1,18 @@
+use borrow.Author.Needs.{needs}
+use Rattle.capi.proofs.encode.add_at.Statement.{statement}
+use Rattle.capi.proofs.encode.add_at.Tie as tie
+
+returns : tie.Need-returns
+returns c =
+    let made = c .before .before in
+    rw (made .before .size-of .ensures, made .rotation-of .ensures)
+
+pub add-at-spec : {M : Type 1} → statement M
+add-at-spec =
+    tie.close
+    (tie.spec
+    (λ c κs. search needs)
+    (λ c κs. search needs)
+    (λ c. search needs)
+    (λ c. search needs)
+    returns)

@@ -1,0 +1,29 @@
+use mathlib.Core.Path.{_≡_, sym, _∙_}
+use Rattle.capi.proofs.Named.{within-bytes, named-within, named-past}
+use borrow.Author.Needs.{needs}
+use Rattle.capi.proofs.encode.named_by.Statement.{statement}
+use Rattle.capi.proofs.encode.named_by.Tie as tie
+
+family-named-requires : tie.Need-family-named-requires
+family-named-requires c κs =
+    let w = c .before in
+    within-bytes (w .before .args .n) (sym (w .within .ensures) ∙ c .if1 .taken)
+
+returns : tie.Need-returns
+returns c =
+    let w = c .before .before in
+    c .family-named .ensures ∙ named-within (w .before .args .n) (sym (w .within .ensures) ∙ c .before .if1 .taken)
+
+returns-2 : tie.Need-returns-2
+returns-2 c =
+    let w = c .before in
+    named-past (w .before .args .n) (sym (w .within .ensures) ∙ c .if1 .left)
+
+pub named-by-spec : {M : Type 1} → statement M
+named-by-spec =
+    tie.close
+    (tie.spec
+    (λ c κs. search needs)
+    family-named-requires
+    returns
+    returns-2)

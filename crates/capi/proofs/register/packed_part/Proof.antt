@@ -1,0 +1,16 @@
+use native.Mathlib.Omega.{arith}
+use Rattle.capi.specs.Register.{partNumber}
+use borrow.Author.Needs.{needs}
+use Rattle.capi.proofs.register.packed_part.Statement.{statement}
+use Rattle.capi.proofs.register.packed_part.Tie as tie
+
+returns : tie.Need-returns
+unfolding partNumber
+returns c = omega arith
+
+pub packed-part-spec : {M : Type 1} → statement M
+packed-part-spec =
+    tie.close
+    (tie.spec
+    (λ c. search needs)
+    returns)

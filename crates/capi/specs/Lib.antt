@@ -1,0 +1,6 @@
+pub mod Run
+pub mod Register
+pub mod List
+pub mod Fields
+pub mod Decode
+pub mod Encode

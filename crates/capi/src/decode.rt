@@ -1,0 +1,162 @@
+// Decoding a word into eight numbers.
+ghost use mathlib.Core.Path.{_≡_};
+ghost use lib.ListN.{length};
+ghost use Rattle.isa.specs.Encode.{sizeBits, rotationBits};
+ghost use Rattle.capi.specs.Fields.{formNumber, addFields, mulFields, indexedFields, elementFields, fieldsOf};
+ghost use Rattle.capi.specs.Decode.{decodeCall};
+use isa::types::Add;
+use isa::types::ByElement;
+use isa::types::Decoded;
+use isa::types::Form;
+use isa::types::Mul;
+use isa::types::MulIndexed;
+use isa::types::Op;
+use isa::types::Rotation;
+use isa::types::Size;
+
+fn size_number(z: Size) -> u32
+    ensures { λ r. ⌜ r ≡ sizeBits z ⌝ }
+{
+    match z {
+        Size::B => 0,
+        Size::H => 1,
+        Size::S => 2,
+        Size::D => 3,
+    }
+}
+
+fn turns_number(rot: Rotation) -> u32
+    ensures { λ r. ⌜ r ≡ rotationBits rot ⌝ }
+{
+    match rot {
+        Rotation::R0 => 0,
+        Rotation::R90 => 1,
+        Rotation::R180 => 2,
+        Rotation::R270 => 3,
+    }
+}
+
+fn form_number(form: Form) -> u32
+    ensures { λ r. ⌜ r ≡ formNumber form ⌝ }
+{
+    match form {
+        Form::Scalar => 0,
+        Form::Vector64 => 1,
+        Form::Vector128 => 2,
+    }
+}
+
+// ---- the eight numbers, by the kind of operation
+
+fn add_fields(family: u32, a: Add) -> [u32; 8]
+    ensures { λ r. ⌜ r ≡ addFields family a ⌝ }
+{
+    let size = a.size;
+    let rot = a.rot;
+    [
+        family,
+        size_number(size),
+        0,
+        turns_number(rot),
+        a.zdn as u32,
+        0,
+        a.zm as u32,
+        0,
+    ]
+}
+
+fn mul_fields(family: u32, a: Mul) -> [u32; 8]
+    ensures { λ r. ⌜ r ≡ mulFields family a ⌝ }
+{
+    let size = a.size;
+    let rot = a.rot;
+    [
+        family,
+        size_number(size),
+        0,
+        turns_number(rot),
+        a.zda as u32,
+        a.zn as u32,
+        a.zm as u32,
+        0,
+    ]
+}
+
+fn indexed_fields(family: u32, a: MulIndexed) -> [u32; 8]
+    ensures { λ r. ⌜ r ≡ indexedFields family a ⌝ }
+{
+    let size = a.size;
+    let rot = a.rot;
+    [
+        family,
+        size_number(size),
+        0,
+        turns_number(rot),
+        a.zda as u32,
+        a.zn as u32,
+        a.zm as u32,
+        a.index as u32,
+    ]
+}
+
+fn element_fields(family: u32, a: ByElement) -> [u32; 8]
+    ensures { λ r. ⌜ r ≡ elementFields family a ⌝ }
+{
+    let size = a.size;
+    let form = a.form;
+    [
+        family,
+        size_number(size),
+        form_number(form),
+        0,
+        a.rd as u32,
+        a.rn as u32,
+        a.rm as u32,
+        a.index as u32,
+    ]
+}
+
+// The families are numbered in the order of the listing's names.
+fn fields_of(op: Op) -> [u32; 8]
+    ensures { λ r. ⌜ r ≡ fieldsOf op ⌝ }
+{
+    match op {
+        Op::Cadd(a) => add_fields(0, a),
+        Op::Sqcadd(a) => add_fields(1, a),
+        Op::Cmla(a) => mul_fields(2, a),
+        Op::CmlaIndexed(a) => indexed_fields(3, a),
+        Op::Sqrdcmlah(a) => mul_fields(4, a),
+        Op::SqrdcmlahIndexed(a) => indexed_fields(5, a),
+        Op::Sqrdmlah(a) => element_fields(6, a),
+        Op::Sqrdmlsh(a) => element_fields(7, a),
+    }
+}
+
+// `kob_decode` has checked that the part has eight numbers.
+fn put_fields(fields: &mut [u32], v: [u32; 8])
+    requires { ⌜ length (now fields) ≡ 8 ⌝ }
+    ensures { λ _. ⌜ now (fields .exit) ≡ v ⌝ }
+{
+    for i in 0..8 {
+        fields[i] = v[i];
+    }
+}
+
+// The operation's fields are written where the answer is 0.
+#[no_mangle]
+pub extern "C" fn kob_decode(word: u32, fields: &mut [u32]) -> u32
+    ensures { λ r. ⌜ record { answer = r; fields = now (fields .exit) } ≡ decodeCall word (now (fields .entry)) ⌝ }
+{
+    if fields.len() != 8 {
+        return 32;
+    }
+    let decoded = codec::decode(word);
+    match decoded {
+        Decoded::Operation(op) => {
+            put_fields(fields, fields_of(op));
+            0
+        }
+        Decoded::Reserved => 5,
+        Decoded::Outside => 4,
+    }
+}

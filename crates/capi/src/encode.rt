@@ -1,0 +1,294 @@
+// Writing the word that eight numbers name.
+ghost use mathlib.Core.Path.{_≡_};
+ghost use lib.ListN.{length};
+ghost use Rattle.isa.specs.Decode.{sizeOf, rotationOf};
+ghost use Rattle.codec.specs.Pair.{addBy, mulBy, indexedBy, elementBy};
+ghost use Rattle.capi.specs.Encode.{numbersAt, withinOf, Bytes, formOf, addAt, mulAt, indexedAt, elementAt, namedIf, addUnused, mulUnused, indexedUnused, elementUnused, familyNamed, namedOf, writtenPacked, namedNumber, encodeCall};
+use isa::types::Add;
+use isa::types::ByElement;
+use isa::types::Form;
+use isa::types::Mul;
+use isa::types::MulIndexed;
+use isa::types::Op;
+use isa::types::Rotation;
+use isa::types::Size;
+use isa::types::Written;
+
+// Eight numbers by name.
+pub struct Numbers {
+    pub family: u32,
+    pub size: u32,
+    pub form: u32,
+    pub turns: u32,
+    pub destination: u32,
+    pub first: u32,
+    pub second: u32,
+    pub index: u32,
+}
+
+// The operation that they name, if they name one.
+pub enum Named {
+    Operation(Op),
+    Nothing,
+}
+
+// `kob_encode` has checked that the part has eight numbers.
+fn read_numbers(fields: &[u32]) -> Numbers
+    requires { ⌜ length (now fields) ≡ 8 ⌝ }
+    ensures { λ r. ⌜ r ≡ numbersAt (now (fields .entry)) ⌝ }
+{
+    Numbers {
+        family: fields[0],
+        size: fields[1],
+        form: fields[2],
+        turns: fields[3],
+        destination: fields[4],
+        first: fields[5],
+        second: fields[6],
+        index: fields[7],
+    }
+}
+
+fn within(n: Numbers) -> bool
+    ensures { λ r. ⌜ r ≡ withinOf n ⌝ }
+{
+    (n.size <= 3)
+        & ((n.form <= 2)
+            & ((n.turns <= 3)
+                & ((n.destination <= 255)
+                    & ((n.first <= 255) & ((n.second <= 255) & (n.index <= 255))))))
+}
+
+fn size_of(n: u32) -> Size
+    ensures { λ r. ⌜ r ≡ sizeOf n ⌝ }
+{
+    match n {
+        0 => Size::B,
+        1 => Size::H,
+        2 => Size::S,
+        _ => Size::D,
+    }
+}
+
+fn rotation_of(n: u32) -> Rotation
+    ensures { λ r. ⌜ r ≡ rotationOf n ⌝ }
+{
+    match n {
+        0 => Rotation::R0,
+        1 => Rotation::R90,
+        2 => Rotation::R180,
+        _ => Rotation::R270,
+    }
+}
+
+fn form_of(n: u32) -> Form
+    ensures { λ r. ⌜ r ≡ formOf n ⌝ }
+{
+    match n {
+        0 => Form::Scalar,
+        1 => Form::Vector64,
+        _ => Form::Vector128,
+    }
+}
+
+// ---- the fields of an operation; `named_by` has checked that they have room
+
+fn add_at(n: Numbers) -> Add
+    requires { ⌜ Bytes n ⌝ }
+    ensures { λ r. ⌜ r ≡ addAt n ⌝ }
+{
+    Add {
+        size: size_of(n.size),
+        rot: rotation_of(n.turns),
+        zm: n.second as u8,
+        zdn: n.destination as u8,
+    }
+}
+
+fn mul_at(n: Numbers) -> Mul
+    requires { ⌜ Bytes n ⌝ }
+    ensures { λ r. ⌜ r ≡ mulAt n ⌝ }
+{
+    Mul {
+        size: size_of(n.size),
+        rot: rotation_of(n.turns),
+        zm: n.second as u8,
+        zn: n.first as u8,
+        zda: n.destination as u8,
+    }
+}
+
+fn indexed_at(n: Numbers) -> MulIndexed
+    requires { ⌜ Bytes n ⌝ }
+    ensures { λ r. ⌜ r ≡ indexedAt n ⌝ }
+{
+    MulIndexed {
+        size: size_of(n.size),
+        rot: rotation_of(n.turns),
+        zm: n.second as u8,
+        index: n.index as u8,
+        zn: n.first as u8,
+        zda: n.destination as u8,
+    }
+}
+
+fn element_at(n: Numbers) -> ByElement
+    requires { ⌜ Bytes n ⌝ }
+    ensures { λ r. ⌜ r ≡ elementAt n ⌝ }
+{
+    ByElement {
+        form: form_of(n.form),
+        size: size_of(n.size),
+        rm: n.second as u8,
+        index: n.index as u8,
+        rn: n.first as u8,
+        rd: n.destination as u8,
+    }
+}
+
+// ---- families that differ in one choice
+
+fn add_op(saturating: bool, a: Add) -> Op
+    ensures { λ r. ⌜ r ≡ addBy saturating a ⌝ }
+{
+    if saturating {
+        Op::Sqcadd(a)
+    } else {
+        Op::Cadd(a)
+    }
+}
+
+fn mul_op(rounding: bool, a: Mul) -> Op
+    ensures { λ r. ⌜ r ≡ mulBy rounding a ⌝ }
+{
+    if rounding {
+        Op::Sqrdcmlah(a)
+    } else {
+        Op::Cmla(a)
+    }
+}
+
+fn indexed_op(rounding: bool, a: MulIndexed) -> Op
+    ensures { λ r. ⌜ r ≡ indexedBy rounding a ⌝ }
+{
+    if rounding {
+        Op::SqrdcmlahIndexed(a)
+    } else {
+        Op::CmlaIndexed(a)
+    }
+}
+
+fn element_op(minus: bool, a: ByElement) -> Op
+    ensures { λ r. ⌜ r ≡ elementBy minus a ⌝ }
+{
+    if minus {
+        Op::Sqrdmlsh(a)
+    } else {
+        Op::Sqrdmlah(a)
+    }
+}
+
+// ---- an operation, where what the family does not use is 0
+
+fn named_if(unused: bool, op: Op) -> Named
+    ensures { λ r. ⌜ r ≡ namedIf unused op ⌝ }
+{
+    if unused {
+        Named::Operation(op)
+    } else {
+        Named::Nothing
+    }
+}
+
+fn add_named(saturating: bool, n: Numbers) -> Named
+    requires { ⌜ Bytes n ⌝ }
+    ensures { λ r. ⌜ r ≡ namedIf (addUnused n) (addBy saturating (addAt n)) ⌝ }
+{
+    let unused = (n.form == 0) & ((n.first == 0) & (n.index == 0));
+    named_if(unused, add_op(saturating, add_at(n)))
+}
+
+fn mul_named(rounding: bool, n: Numbers) -> Named
+    requires { ⌜ Bytes n ⌝ }
+    ensures { λ r. ⌜ r ≡ namedIf (mulUnused n) (mulBy rounding (mulAt n)) ⌝ }
+{
+    let unused = (n.form == 0) & (n.index == 0);
+    named_if(unused, mul_op(rounding, mul_at(n)))
+}
+
+fn indexed_named(rounding: bool, n: Numbers) -> Named
+    requires { ⌜ Bytes n ⌝ }
+    ensures { λ r. ⌜ r ≡ namedIf (indexedUnused n) (indexedBy rounding (indexedAt n)) ⌝ }
+{
+    named_if(n.form == 0, indexed_op(rounding, indexed_at(n)))
+}
+
+fn element_named(minus: bool, n: Numbers) -> Named
+    requires { ⌜ Bytes n ⌝ }
+    ensures { λ r. ⌜ r ≡ namedIf (elementUnused n) (elementBy minus (elementAt n)) ⌝ }
+{
+    named_if(n.turns == 0, element_op(minus, element_at(n)))
+}
+
+fn family_named(n: Numbers) -> Named
+    requires { ⌜ Bytes n ⌝ }
+    ensures { λ r. ⌜ r ≡ familyNamed n ⌝ }
+{
+    let family = n.family;
+    match family {
+        0 => add_named(false, n),
+        1 => add_named(true, n),
+        2 => mul_named(false, n),
+        3 => indexed_named(false, n),
+        4 => mul_named(true, n),
+        5 => indexed_named(true, n),
+        6 => element_named(false, n),
+        7 => element_named(true, n),
+        _ => Named::Nothing,
+    }
+}
+
+fn named_by(n: Numbers) -> Named
+    ensures { λ r. ⌜ r ≡ namedOf n ⌝ }
+{
+    if within(n) {
+        family_named(n)
+    } else {
+        Named::Nothing
+    }
+}
+
+// ---- the answer
+
+// The number in the low half, the word in the high half.
+fn packed_written(w: Written) -> u64
+    ensures { λ r. ⌜ r ≡ writtenPacked w ⌝ }
+{
+    match w {
+        Written::Word(word) => (word as u64) << 32,
+        Written::NoSize => 7,
+        Written::NoRotation => 8,
+        Written::NoRegister => 9,
+        Written::NoIndex => 10,
+    }
+}
+
+fn packed_named(named: Named) -> u64
+    ensures { λ r. ⌜ r ≡ namedNumber named ⌝ }
+{
+    match named {
+        Named::Operation(op) => packed_written(codec::encode(op)),
+        Named::Nothing => 33,
+    }
+}
+
+// Writes the word that eight numbers name.
+#[no_mangle]
+pub extern "C" fn kob_encode(fields: &[u32]) -> u64
+    ensures { λ r. ⌜ r ≡ encodeCall (now (fields .entry)) ⌝ }
+{
+    if fields.len() != 8 {
+        return 32;
+    }
+    packed_named(named_by(read_numbers(fields)))
+}

@@ -1,0 +1,178 @@
+/*
+ * Kobbeskuim: AArch64's saturating complex vector instructions.
+ *
+ * Every call is proved to meet its contract for every input, to stay inside the
+ * memory that it is lent, and to end. None has a precondition but C's own: a
+ * pointer is aligned for its type and good for the length beside it.
+ *
+ * A part of memory is a pointer and then a length, which counts elements. Memory
+ * is only used during the call. The pointer is not null, also where the length is
+ * 0. A part that a call writes to (a pointer with no const) overlaps no other part
+ * of the same call. No call keeps state, so threads may call at the same time.
+ *
+ * Link with libcapi.a, which './kob staticlib' builds (x86-64 Linux).
+ */
+#ifndef KOBBESKUIM_H
+#define KOBBESKUIM_H
+
+#include <stdbool.h>
+#include <stddef.h>
+#include <stdint.h>
+
+#ifdef __cplusplus
+extern "C" {
+#endif
+
+/* ---- limits */
+
+/* The vector length L, in bits: a multiple of 128, from 128 to 2,048. */
+#define KOB_LENGTH_STEP 128
+#define KOB_LENGTH_MAX 2048
+
+/* The register file: registers 0 to 31 in order, L/8 bytes each, little-endian,
+ * element 0 first; 4 x L bytes together. Register Vn is the first 16 bytes of Zn. */
+#define KOB_REGISTERS 32
+#define KOB_FILE_SIZE(l) ((size_t)4 * (l))
+#define KOB_FILE_SIZE_MAX 8192
+
+/* The most words of a program. */
+#define KOB_WORDS_MAX 4096
+
+/* The most words that a listing lists; one more gives its LIMIT line. */
+#define KOB_LIST_WORDS_MAX 1048576
+
+/* ---- numbers answered */
+
+#define KOB_DONE 0         /* done */
+#define KOB_BAD_LENGTH 1   /* L is not legal */
+#define KOB_BAD_SIZE 2     /* the file is not 4 x L bytes */
+#define KOB_TOO_LONG 3     /* more than 4,096 words */
+#define KOB_OUTSIDE 4      /* a word of no family here */
+#define KOB_RESERVED 5     /* a reserved word: SQRDMLAH or SQRDMLSH with size 00 or 11 */
+#define KOB_NO_REGISTER 6  /* a register above 31 was asked for */
+#define KOB_NO_SIZE 7      /* a size that the family lacks */
+#define KOB_NO_ROTATION 8  /* a rotation that the family lacks */
+#define KOB_REGISTER_LIMIT 9 /* a register field above its limit */
+#define KOB_INDEX_LIMIT 10 /* an index above its limit */
+
+/* Numbers of these calls alone, above every number of the library. */
+#define KOB_BAD_FIELDS 32   /* a lent part of other than 8 numbers */
+#define KOB_NO_OPERATION 33 /* fields that name no operation */
+
+/* ---- running a program */
+
+/*
+ * Runs the words in order on the lent file, with the saturation flag QC.
+ *
+ * KOB_DONE: all words are done. KOB_BAD_LENGTH, KOB_BAD_SIZE, KOB_TOO_LONG, the
+ * first that applies: nothing is changed, 0 words. KOB_OUTSIDE, KOB_RESERVED: the
+ * file and the flag are as after the words before that word, and their count is
+ * the words done.
+ */
+uint64_t kob_run(size_t l, uint8_t *file, size_t file_length, bool qc,
+                 const uint32_t *words, size_t word_count);
+
+/* The answer's parts: the number in bits 0 to 7, the flag in bit 8, the words
+ * done (0 to 4,096) in bits 16 to 31; the other bits are 0. */
+static inline unsigned kob_run_number(uint64_t answer) { return (unsigned)(answer & 0xFF); }
+static inline bool kob_run_flag(uint64_t answer) { return (answer >> 8 & 1) != 0; }
+static inline unsigned kob_run_done(uint64_t answer) { return (unsigned)(answer >> 16 & 0xFFFF); }
+
+/* ---- where a register stands */
+
+/*
+ * The place of register n in a file of `size` bytes. KOB_DONE, or the first of
+ * KOB_BAD_LENGTH, KOB_BAD_SIZE and KOB_NO_REGISTER that applies.
+ */
+uint64_t kob_register(size_t l, size_t size, size_t n);
+
+/* The answer's parts: the number in bits 0 to 7, the start in bits 16 to 39 (at
+ * most 7,936), the length in bits 40 to 63 (at most 256), both in bytes and both 0
+ * on a refusal; bits 8 to 15 are 0. */
+static inline unsigned kob_register_number(uint64_t answer) { return (unsigned)(answer & 0xFF); }
+static inline size_t kob_register_start(uint64_t answer) { return (size_t)(answer >> 16 & 0xFFFFFF); }
+static inline size_t kob_register_length(uint64_t answer) { return (size_t)(answer >> 40); }
+
+/* ---- words and their fields */
+
+/* An operation is eight numbers. What its family does not use is 0. */
+#define KOB_FIELDS 8
+#define KOB_FAMILY 0      /* KOB_CADD to KOB_SQRDMLSH */
+#define KOB_SIZE 1        /* KOB_SIZE_B to KOB_SIZE_D */
+#define KOB_FORM 2        /* KOB_SCALAR to KOB_VECTOR_128; SQRDMLAH and SQRDMLSH only */
+#define KOB_TURNS 3       /* the rotation in quarter turns, 0 to 3; all but SQRDMLAH and SQRDMLSH */
+#define KOB_DESTINATION 4 /* Zdn, Zda or Rd */
+#define KOB_FIRST 5       /* Zn or Rn; CADD and SQCADD have none, for Zdn is their first source */
+#define KOB_SECOND 6      /* Zm or Rm */
+#define KOB_INDEX 7       /* CMLA-I, SQRDCMLAH-I, SQRDMLAH and SQRDMLSH only */
+
+#define KOB_CADD 0
+#define KOB_SQCADD 1
+#define KOB_CMLA 2
+#define KOB_CMLA_I 3
+#define KOB_SQRDCMLAH 4
+#define KOB_SQRDCMLAH_I 5
+#define KOB_SQRDMLAH 6
+#define KOB_SQRDMLSH 7
+
+#define KOB_SIZE_B 0 /* elements of 8 bits */
+#define KOB_SIZE_H 1 /* 16 */
+#define KOB_SIZE_S 2 /* 32 */
+#define KOB_SIZE_D 3 /* 64 */
+
+#define KOB_SCALAR 0     /* one lane */
+#define KOB_VECTOR_64 1  /* 64 bits of lanes */
+#define KOB_VECTOR_128 2 /* 128 bits of lanes */
+
+/*
+ * Decodes a word into `fields`, whose length is to be KOB_FIELDS.
+ *
+ * KOB_DONE: the eight fields are written. Else nothing is: KOB_BAD_FIELDS,
+ * KOB_OUTSIDE, KOB_RESERVED.
+ */
+uint32_t kob_decode(uint32_t word, uint32_t *fields, size_t length);
+
+/*
+ * The word of the operation that the fields name.
+ *
+ * KOB_BAD_FIELDS: the length is not KOB_FIELDS. KOB_NO_OPERATION: a family above 7,
+ * a size above 3, a form above 2, turns above 3, a register or an index above 255,
+ * or a field that the family does not use and that is not 0. Then the first of
+ *   KOB_NO_SIZE: only H and S for the indexed families, SQRDMLAH and SQRDMLSH;
+ *   KOB_NO_ROTATION: only 90 and 270 degrees, turns 1 and 3, for CADD and SQCADD;
+ *   KOB_REGISTER_LIMIT: registers are at most 31, and the second source at most
+ *     7 (indexed H), 15 (indexed S, and SQRDMLAH and SQRDMLSH at H);
+ *   KOB_INDEX_LIMIT: the index is at most 3 and 1 (indexed H and S), 7 and 3
+ *     (SQRDMLAH and SQRDMLSH at H and S).
+ * Or KOB_DONE.
+ *
+ * The fields that kob_decode writes for a word give that word.
+ */
+uint64_t kob_encode(const uint32_t *fields, size_t length);
+
+/* The answer's parts: the number in the low half, the word in the high half, which
+ * is 0 on a refusal. */
+static inline uint32_t kob_encode_number(uint64_t answer) { return (uint32_t)(answer & 0xFFFFFFFF); }
+static inline uint32_t kob_encode_word(uint64_t answer) { return (uint32_t)(answer >> 32); }
+
+/* ---- the listing */
+
+/* The room that a listing of so many bytes asks for: 21 for each whole word, 32 more. */
+#define KOB_LIST_ROOM(length) ((size_t)21 * ((size_t)(length) / 4) + 32)
+
+/* kob_list's answer where `out` is shorter than that. */
+#define KOB_NO_ROOM UINT64_MAX
+
+/*
+ * Lists all little-endian 4-byte words of `bytes`, with the closing lines, from the
+ * start of `out`. The length of the text; what stands behind it in `out` is left.
+ * KOB_NO_ROOM, and nothing is written, where `out` has not room for
+ * KOB_LIST_ROOM(length) bytes.
+ */
+uint64_t kob_list(const uint8_t *bytes, size_t length, uint8_t *out, size_t room);
+
+#ifdef __cplusplus
+}
+#endif
+
+#endif

@@ -1,0 +1,467 @@
+/* The C half of the differential harness (harness.py builds and starts it).
+ *
+ *   harness fuzz SEED SECONDS   the archive against bench/plain.c, and demand 3 on the archive alone
+ *   harness words               all 2^32 words, decoded by both
+ *   harness answer              answers the calls on standard input, for the comparison with the
+ *                               independent model
+ *
+ * Differences are told on standard error. 'fuzz' and 'words' end with 'N cases, M differences'. */
+
+#define _DEFAULT_SOURCE
+#include <inttypes.h>
+#include <stdio.h>
+#include <stdlib.h>
+#include <string.h>
+#include <sys/mman.h>
+#include <time.h>
+
+#include "kobbeskuim.h"
+#include "plain.h"
+
+enum { MOST_WORDS = 4096, MOST_FILE = 4 * 2176, TOLD = 10 };
+
+static uint64_t cases, differences;
+
+/* ---- seeded numbers */
+
+static uint64_t seed;
+
+static uint64_t next(void)
+{
+    seed ^= seed >> 12;
+    seed ^= seed << 25;
+    seed ^= seed >> 27;
+    return seed * 0x2545F4914F6CDD1D;
+}
+
+static uint32_t below(uint32_t n)
+{
+    return (uint32_t)((next() >> 32) * n >> 32);
+}
+
+static bool one_in(uint32_t n)
+{
+    return below(n) == 0;
+}
+
+/* ---- lent memory, between pages that cannot be touched */
+
+struct area {
+    uint8_t *start;
+    size_t size;
+};
+
+enum { PAGE = 4096, PATTERN = 0xA5 };
+
+static struct area area(size_t least)
+{
+    size_t size = (least + PAGE - 1) / PAGE * PAGE;
+    uint8_t *all = mmap(NULL, size + 2 * PAGE, PROT_READ | PROT_WRITE, MAP_PRIVATE | MAP_ANONYMOUS, -1, 0);
+    if (all == MAP_FAILED || mprotect(all, PAGE, PROT_NONE) || mprotect(all + PAGE + size, PAGE, PROT_NONE)) {
+        perror("harness: mmap");
+        exit(2);
+    }
+    memset(all + PAGE, PATTERN, size);
+    return (struct area){all + PAGE, size};
+}
+
+/* So many bytes of the area: its first, its last, or some between, wherever the step lets them start. */
+static uint8_t *lend(struct area a, size_t bytes, size_t step)
+{
+    size_t room = a.size - bytes;
+    switch (below(3)) {
+    case 0: return a.start;
+    case 1: return a.start + room;
+    default: return a.start + below(room / step + 1) * step;
+    }
+}
+
+/* Whether the area holds its pattern outside of the lent part, which gets it back. */
+static bool kept(struct area a, uint8_t *part, size_t bytes)
+{
+    bool same = true;
+    for (uint8_t *p = a.start; p < part; p++)
+        same &= *p == PATTERN;
+    for (uint8_t *p = part + bytes; p < a.start + a.size; p++)
+        same &= *p == PATTERN;
+    if (!same)
+        memset(a.start, PATTERN, a.size);
+    memset(part, PATTERN, bytes);
+    return same;
+}
+
+/* ---- words: document 01's table, and the bits that belong to fields */
+
+static const struct row {
+    uint32_t base, fields;
+} rows[] = {
+    {0x4500D800, 0x00C007FF}, {0x4501D800, 0x00C007FF}, {0x44002000, 0x00DF0FFF}, {0x44003000, 0x00DF0FFF},
+    {0x44A06000, 0x001F0FFF}, {0x44E06000, 0x001F0FFF}, {0x44A07000, 0x001F0FFF}, {0x44E07000, 0x001F0FFF},
+    {0x2F00D000, 0x40FF0BFF}, {0x7F00D000, 0x00FF0BFF}, {0x2F00F000, 0x40FF0BFF}, {0x7F00F000, 0x00FF0BFF},
+};
+
+enum { SVE2_ROWS = 8, ROWS = 12 };
+
+static uint32_t row_word(unsigned row)
+{
+    return rows[row].base | ((uint32_t)next() & rows[row].fields);
+}
+
+static uint32_t reserved_word(void)
+{
+    uint32_t word = row_word(SVE2_ROWS + below(ROWS - SVE2_ROWS)) & ~(3u << 22);
+    return one_in(2) ? word : word | 3u << 22;
+}
+
+/* A word of the first rows. Few registers, as often as not, so that they coincide and words follow on
+ * one another. */
+static uint32_t good_word(unsigned count)
+{
+    unsigned row = below(count);
+    uint32_t word = row_word(row);
+    if (row >= SVE2_ROWS)
+        word = (word & ~(3u << 22)) | (1 + below(2)) << 22;
+    if (one_in(2))
+        word &= ~(row < 2 ? 0x000003DEu : 0x000C039Cu); /* the registers' upper bits */
+    return word;
+}
+
+/* A word that is near a row, reserved, or any. */
+static uint32_t bad_word(void)
+{
+    unsigned row = below(ROWS);
+    switch (below(4)) {
+    case 0: return reserved_word();
+    case 1: return (uint32_t)next();
+    default: return row_word(row) ^ 1u << below(32);
+    }
+}
+
+/* Most programs are short, some end in the middle, a few are at the limit. */
+static size_t program(uint32_t *words, unsigned count)
+{
+    size_t n = one_in(300) ? MOST_WORDS - below(3) : one_in(40) ? below(300) : below(20);
+    for (size_t k = 0; k < n; k++)
+        words[k] = good_word(count);
+    if (n > 0 && one_in(3))
+        words[below((uint32_t)n)] = bad_word();
+    return n;
+}
+
+/* ---- files */
+
+/* A lane of so many bits: random, at an edge, near an edge, near a power of two (where products tie
+ * and sums reach a bound), or small. */
+static uint64_t lane(unsigned bits, unsigned style)
+{
+    uint64_t lowest = (uint64_t)1 << (bits - 1), near = below(5) - (uint64_t)2;
+    switch (style < 6 ? style : below(6)) {
+    case 0: return next();
+    case 1: return one_in(2) ? lowest : lowest - 1;
+    case 2: return lowest + near;
+    case 3: return near;
+    case 4: return ((uint64_t)1 << below(bits)) * (one_in(2) ? 1 : -(uint64_t)1);
+    default: return ((uint64_t)1 << below(bits)) * (one_in(2) ? 1 : -(uint64_t)1) + near;
+    }
+}
+
+static void fill(uint8_t *file, size_t size)
+{
+    unsigned bytes = 1u << below(4), style = below(12);
+    if (style == 0) { /* every 8 bytes at once: the quick way to random bytes */
+        bytes = 8;
+    }
+    size_t at = 0;
+    for (; at + bytes <= size; at += bytes) {
+        uint64_t x = lane(8 * bytes, style);
+        memcpy(file + at, &x, bytes);
+    }
+    memset(file + at, 0, size - at);
+}
+
+/* Any legal length, the shorter more often. */
+static size_t legal_length(void)
+{
+    return 128 * (1 + (size_t)below(1 + below(16)));
+}
+
+/* ---- telling a difference */
+
+static void differ(const char *what, size_t l, size_t size, bool qc, const uint32_t *words, size_t count,
+                   uint64_t found, uint64_t wanted)
+{
+    if (differences++ >= TOLD)
+        return;
+    fprintf(stderr, "harness: %s, case %" PRIu64 ": L = %zu, %zu bytes, flag %d, %zu words", what, cases,
+            l, size, qc, count);
+    for (size_t k = 0; k < count && k < 8; k++)
+        fprintf(stderr, " %08X", (unsigned)words[k]);
+    fprintf(stderr, ": %" PRIX64 ", not %" PRIX64 "\n", found, wanted);
+}
+
+/* ---- the archive against plain.c */
+
+static struct area file_area, word_area;
+static uint8_t before[MOST_FILE], wanted_file[MOST_FILE];
+static uint32_t words[MOST_WORDS + 1];
+
+static size_t wrong_length(void)
+{
+    static const size_t some[] = {0, 1, 64, 127, 129, 192, 2047, 2049, 2112, 2176, 4096};
+    switch (below(4)) {
+    case 0: return next();
+    case 1: return next() / 128 * 128;
+    default: return some[below(sizeof some / sizeof *some)];
+    }
+}
+
+static size_t wrong_size(size_t size)
+{
+    static const int some[] = {-512, -128, -16, -1, 1, 16, 128, 512};
+    size_t wrong = one_in(4) ? below(MOST_FILE + 1) : size + some[below(8)];
+    return wrong <= MOST_FILE ? wrong : 0;
+}
+
+static void run_case(void)
+{
+    size_t l = legal_length(), size = 4 * l, count = program(words, ROWS);
+    bool qc = one_in(2), damaged = one_in(6);
+    if (damaged && one_in(2)) {
+        l = wrong_length();
+        size = l <= MOST_FILE / 4 ? 4 * l : below(MOST_FILE + 1);
+    }
+    if (damaged && one_in(2))
+        size = wrong_size(size);
+    if (damaged && one_in(8)) {
+        for (; count <= MOST_WORDS; count++)
+            words[count] = one_in(100) ? bad_word() : good_word(ROWS);
+    }
+    fill(before, size);
+    memcpy(wanted_file, before, size);
+    uint64_t wanted = plain_run(l, wanted_file, size, qc, words, count);
+
+    uint8_t *file = lend(file_area, size, 1);
+    uint32_t *lent = (uint32_t *)lend(word_area, 4 * count, 4);
+    memcpy(file, before, size);
+    memcpy(lent, words, 4 * count);
+    uint64_t found = kob_run(l, file, size, qc, lent, count);
+    cases++;
+    const char *what = found != wanted                         ? "the answer"
+                       : memcmp(file, wanted_file, size)       ? "the file"
+                       : memcmp(lent, words, 4 * count)        ? "the words were changed"
+                                                               : NULL;
+    bool clean = kept(file_area, file, size);
+    clean &= kept(word_area, (uint8_t *)lent, 4 * count);
+    if (what || !clean)
+        differ(what ? what : "bytes outside of the file", l, size, qc, words, count, found, wanted);
+}
+
+/* What kob_decode must leave: the fields are untouched unless it answers 0. */
+static void decode_case(uint32_t word)
+{
+    uint32_t fields[8], wanted_fields[8];
+    for (int k = 0; k < 8; k++)
+        fields[k] = wanted_fields[k] = 0xA5A5A5A5;
+    uint32_t found = kob_decode(word, fields, 8), wanted = plain_decode(word, wanted_fields);
+    cases++;
+    if (found != wanted || (wanted == 0 && memcmp(fields, wanted_fields, sizeof fields)))
+        differ("decode", 0, 0, 0, &word, 1, found, wanted);
+    if (wanted != 0)
+        return;
+    uint64_t written = kob_encode(wanted_fields, 8);
+    cases++;
+    if (written != (uint64_t)word << 32)
+        differ("encode", 0, 0, 0, &word, 1, written, (uint64_t)word << 32);
+}
+
+static void register_case(void)
+{
+    size_t l = one_in(2) ? legal_length() : wrong_length();
+    size_t size = one_in(2) ? 4 * l : wrong_size(4 * l);
+    size_t n = one_in(8) ? next() : below(40);
+    uint64_t wanted = l % 128 || l < 128 || l > 2048 ? 1 : size != 4 * l ? 2 : n > 31 ? 6 : 0;
+    if (wanted == 0)
+        wanted = (uint64_t)(n * (l / 8)) << 16 | (uint64_t)(l / 8) << 40;
+    uint64_t found = kob_register(l, size, n);
+    cases++;
+    if (found != wanted)
+        differ("register", l, size, 0, NULL, 0, found, wanted);
+}
+
+/* ---- demand 3, on the archive alone */
+
+/* The first or a later part of every register, as a file of its own. */
+static void part(uint8_t *to, size_t to_bytes, const uint8_t *from, size_t from_bytes, size_t at)
+{
+    for (size_t r = 0; r < 32; r++)
+        memcpy(to + r * to_bytes, from + r * from_bytes + at, to_bytes);
+}
+
+static uint8_t whole[MOST_FILE], alone[MOST_FILE], wanted_part[MOST_FILE];
+
+/* A program on two files that agree up to the shorter length: what is told and left agrees too. */
+static void length_case(void)
+{
+    size_t one = legal_length(), two = one + 128 * (size_t)below((uint32_t)(17 - one / 128));
+    size_t count = program(words, ROWS);
+    bool qc = one_in(2);
+    fill(whole, 4 * two);
+    part(alone, one / 8, whole, two / 8, 0);
+    uint64_t wanted = kob_run(two, whole, 4 * two, qc, words, count);
+    uint64_t found = kob_run(one, alone, 4 * one, qc, words, count);
+    part(wanted_part, one / 8, whole, two / 8, 0);
+    cases++;
+    if (found != wanted || memcmp(alone, wanted_part, 4 * one))
+        differ("the shorter length", one, 4 * two, qc, words, count, found, wanted);
+}
+
+/* A program without Advanced SIMD words: each segment, run alone, does what it does in the whole. */
+static void segment_case(void)
+{
+    size_t l = legal_length(), count = program(words, SVE2_ROWS);
+    for (size_t k = 0; k < count; k++) { /* a damaged word can have become one */
+        uint32_t fields[8];
+        if (plain_decode(words[k], fields) == 0 && fields[0] >= 6)
+            words[k] = 0;
+    }
+    bool qc = one_in(2);
+    fill(before, 4 * l);
+    memcpy(whole, before, 4 * l);
+    uint64_t wanted = kob_run(l, whole, 4 * l, qc, words, count);
+    for (size_t k = 0; k < l / 128; k++) {
+        part(alone, 16, before, l / 8, 16 * k);
+        part(wanted_part, 16, whole, l / 8, 16 * k);
+        uint64_t found = kob_run(128, alone, 512, qc, words, count);
+        cases++;
+        if (found != wanted || memcmp(alone, wanted_part, 512))
+            differ("a segment alone", l, k, qc, words, count, found, wanted);
+    }
+}
+
+static double now(void)
+{
+    struct timespec t;
+    clock_gettime(CLOCK_MONOTONIC, &t);
+    return t.tv_sec + 1e-9 * t.tv_nsec;
+}
+
+static void fuzz(double seconds)
+{
+    file_area = area(MOST_FILE);
+    word_area = area(sizeof words);
+    double end = now() + seconds;
+    uint64_t runs = 0, lengths = 0, segments = 0, calls = 0;
+    while (now() < end) {
+        uint64_t start = cases;
+        for (int k = 0; k < 16; k++)
+            run_case();
+        runs += cases - start, start = cases;
+        for (int k = 0; k < 4; k++)
+            length_case();
+        lengths += cases - start, start = cases;
+        segment_case();
+        segments += cases - start, start = cases;
+        for (int k = 0; k < 16; k++) {
+            decode_case(good_word(ROWS));
+            decode_case(bad_word());
+            register_case();
+        }
+        calls += cases - start;
+    }
+    fprintf(stderr, "harness: %" PRIu64 " runs against plain C; %" PRIu64 " pairs of lengths; %" PRIu64
+            " segments alone; %" PRIu64 " other calls\n", runs, lengths, segments, calls);
+}
+
+/* ---- answers for the model. Numbers are little-endian, as this machine's must be. */
+
+static void take(void *to, size_t bytes)
+{
+    if (fread(to, 1, bytes, stdin) != bytes) {
+        fprintf(stderr, "harness: a call is cut short\n");
+        exit(2);
+    }
+}
+
+static void give(const void *from, size_t bytes)
+{
+    fwrite(from, 1, bytes, stdout);
+}
+
+static void *room(size_t bytes)
+{
+    void *p = malloc(bytes ? bytes : 1);
+    if (!p)
+        exit(2);
+    return p;
+}
+
+/* A call is its kind and its numbers, then its lent parts; the answer is the number returned, as 8
+ * bytes, and the lent part that can have changed. */
+static void answer(void)
+{
+    for (int kind; (kind = getchar()) != EOF;) {
+        uint64_t n[4], found;
+        take(n, sizeof n);
+        if (kind == 'x') { /* run: L, flag, bytes, words */
+            uint8_t *file = room(n[2]);
+            uint32_t *program = room(4 * n[3]);
+            take(file, n[2]);
+            take(program, 4 * n[3]);
+            found = kob_run(n[0], file, n[2], n[1], program, n[3]);
+            give(&found, 8);
+            give(file, n[2]);
+            free(file);
+            free(program);
+        } else if (kind == 'd') { /* decode: the word, the fields' count */
+            uint32_t *fields = room(4 * n[1]);
+            memset(fields, PATTERN, 4 * n[1]);
+            found = kob_decode(n[0], fields, n[1]);
+            give(&found, 8);
+            give(fields, 4 * n[1]);
+            free(fields);
+        } else if (kind == 'e') { /* encode: the fields' count */
+            uint32_t *fields = room(4 * n[0]);
+            take(fields, 4 * n[0]);
+            found = kob_encode(fields, n[0]);
+            give(&found, 8);
+            free(fields);
+        } else if (kind == 'r') { /* register: L, bytes, register */
+            found = kob_register(n[0], n[1], n[2]);
+            give(&found, 8);
+        } else if (kind == 'l') { /* list: bytes, room for text */
+            uint8_t *bytes = room(n[0]), *out = room(n[1]);
+            take(bytes, n[0]);
+            memset(out, PATTERN, n[1]);
+            found = kob_list(bytes, n[0], out, n[1]);
+            give(&found, 8);
+            give(out, n[1]);
+            free(bytes);
+            free(out);
+        } else {
+            fprintf(stderr, "harness: no call of kind %d\n", kind);
+            exit(2);
+        }
+    }
+}
+
+int main(int count, char **given)
+{
+    if (count == 2 && !strcmp(given[1], "answer")) {
+        answer();
+        return 0;
+    }
+    if (count == 4 && !strcmp(given[1], "fuzz")) {
+        seed = strtoull(given[2], NULL, 10) * 0x9E3779B97F4A7C15 | 1;
+        fuzz(strtod(given[3], NULL));
+    } else if (count == 2 && !strcmp(given[1], "words")) {
+        uint32_t word = 0;
+        do
+            decode_case(word);
+        while (++word);
+    } else {
+        fprintf(stderr, "usage: harness fuzz SEED SECONDS | harness words | harness answer\n");
+        return 2;
+    }
+    printf("%" PRIu64 " cases, %" PRIu64 " differences\n", cases, differences);
+    return differences > 0;
+}

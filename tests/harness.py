@@ -1,0 +1,311 @@
+#!/usr/bin/env python3
+"""The differential harness: the static library against two programs that share nothing with it.
+
+    tests/harness.py [--seconds S] [--seed N] [--words] [--archive FILE] [--include FOLDER]
+
+For S seconds (default 60), side by side: tests/harness.c holds the archive against bench/plain.c at
+full speed, and demand 3 against the archive itself; this script asks the archive for answers and
+holds them against the independent model. All cases are seeded, valid and damaged. --words also
+decodes every one of the 2^32 words, which takes a minute or so more.
+
+The archive is target/staticlib/libcapi.a unless told otherwise. The last line is
+'harness: N cases, M differences'; the exit status is 0 only if M is 0.
+"""
+
+import argparse
+import struct
+import subprocess
+import sys
+import tempfile
+import time
+from pathlib import Path
+
+ROOT = Path(__file__).resolve().parent.parent
+sys.dont_write_bytecode = True  # the repository stays as it was
+sys.path.insert(0, str(ROOT / "reference"))
+import execution
+import kernel_cases
+import lanes
+import model
+import run_cases
+from cases import Source
+from execution import LENGTHS, MOST_WORDS
+from model import ADDS, ELEMENT, INDEXED, Operation
+
+TOLD = 10  # differences told in full
+BATCH = 100  # cases for one start of the driver
+NUMBERS = (0, 1, 2, 3, 4, 7, 8, 15, 16, 31, 32, 255, 256, 2**32 - 1)  # either side of each limit
+PATTERN = 0xA5  # what a lent buffer holds before the call
+
+# Numbers of the C interface that document 01 has none for.
+BAD_PART, NO_OPERATION, NO_ROOM = 32, 33, 2**64 - 1
+
+
+# ---- what each call must answer: the call as bytes for the driver, and the driver's answer
+
+
+def call(kind, *numbers, data=b""):
+    return kind + struct.pack("<4Q", *(*numbers, 0, 0, 0)[:4]) + data
+
+
+def packed(*words):
+    return struct.pack(f"<{len(words)}I", *words)
+
+
+def run_case(length, file, flag, words):
+    ran = execution.run(length, file, flag, words)
+    answer = ran.number | ran.flag << 8 | ran.done << 16
+    asked = call(b"x", length, flag, len(file), len(words), data=file + packed(*words))
+    return asked, struct.pack("<Q", answer) + ran.file
+
+
+def decode_case(word, count):
+    answer = model.decode(word)
+    left = bytes([PATTERN] * 4 * count)
+    if count != 8:
+        number = BAD_PART
+    elif isinstance(answer, Operation):
+        number, left = 0, packed(*answer)
+    else:
+        number = execution.RESERVED if answer == model.RESERVED else execution.OUTSIDE
+    return call(b"d", word, count), struct.pack("<Q", number) + left
+
+
+def names_operation(fields):
+    """Whether the numbers fit, and those that the family does not use are 0."""
+    op = Operation(*fields)
+    if op.family > 7 or op.size > 3 or op.form > 2 or op.turns > 3 or max(fields[4:]) > 255:
+        return False
+    unused = {"form"} if op.family not in ELEMENT else {"turns"}
+    if op.family in ADDS:
+        unused.add("first")
+    if op.family not in INDEXED + ELEMENT:
+        unused.add("index")
+    return not any(getattr(op, name) for name in unused)
+
+
+def encode_case(fields):
+    if len(fields) != 8:
+        number, word = BAD_PART, 0
+    elif not names_operation(fields):
+        number, word = NO_OPERATION, 0
+    else:
+        number, word = model.encode(Operation(*fields))
+    return call(b"e", len(fields), data=packed(*fields)), packed(number, word)
+
+
+def register_case(length, size, n):
+    number, answer = execution.refusal_of(length, size), 0
+    if number == 0 and n > 31:
+        number = execution.NO_REGISTER
+    if number == 0:
+        answer = n * (length // 8) << 16 | length // 8 << 40
+    return call(b"r", length, size, n), struct.pack("<Q", number | answer)
+
+
+def list_case(data, room):
+    text, answer = model.listing(data), NO_ROOM
+    left = bytes([PATTERN] * room)
+    if room >= 21 * (len(data) // 4) + 32:
+        answer, left = len(text), text + left[len(text) :]
+    return call(b"l", len(data), room, data=data), struct.pack("<Q", answer) + left
+
+
+# ---- cases
+
+
+class Maker(run_cases.Maker):
+    """Endless cases, over the words that the stored cases are made of."""
+
+    def __init__(self, source):
+        super().__init__(source)
+        # Bytes to cut files from, for each width of an element.
+        self.pools = [self.pool(bits) for bits in (8, 16, 32, 64)]
+
+    def pool(self, bits):
+        edges = kernel_cases.edges(bits) + [2**k for k in range(bits - 1)]
+        made = [
+            self.source.choose(edges) if self.source.below(2) else self.random(bits)
+            for _ in range(2**18 // bits)
+        ]
+        return lanes.data_of(made, bits)
+
+    def random(self, bits):
+        return lanes.wrap(self.source.below(2**32) << 32 | self.source.below(2**32), bits)
+
+    def file(self, size):
+        pool = self.source.choose(self.pools)
+        start = self.source.below((len(pool) - size) // 8 + 1) * 8
+        return pool[start : start + size]
+
+    def flag(self):
+        return bool(self.source.below(2))
+
+    # -- one case of a kind
+
+    def program(self):
+        """Some words; every third program ends in the middle, a few are long."""
+        source = self.source
+        length, count = self.length(), source.below(10)
+        if source.below(400) == 0:
+            length, count = 128, MOST_WORDS - source.below(3)
+        words = [self.good() for _ in range(count)]
+        if source.below(3) == 0:
+            stop = self.outside() if source.below(2) else self.reserved()
+            words.insert(source.below(count + 1), stop)
+        return run_case(length, self.file(4 * length), self.flag(), words)
+
+    def coinciding_word(self):
+        """Any operation, its registers one in some way."""
+        op = self.source.choose(self.operations)
+        one, other = self.source.below(8), self.source.below(8)
+        first = 0 if op.family in ADDS else self.source.choose((one, other))
+        word = self.word(op._replace(destination=one, first=first, second=self.source.choose((one, other))))
+        length = self.length()
+        return run_case(length, self.file(4 * length), self.flag(), [word])
+
+    def aimed_word(self):
+        """One word, its lanes at ties and bounds in every segment."""
+        op, length = self.source.choose(self.operations), self.length()
+        maker = kernel_cases.Maker(self.source, op)
+        makers = [maker.bounds, maker.bounds, maker.mixed, maker.mixed if op.family in ADDS else maker.ties]
+        c, n, m = b"", b"", b""
+        for _ in range(length // 128):
+            made = [lanes.data_of(x, maker.bits) for x in self.source.choose(makers)()]
+            c, n, m = c + made[0], n + made[1], m + made[2]
+        rest = self.file(29 * (length // 8))
+        word = self.word(op._replace(destination=2, first=0 if op.family in ADDS else 1))
+        return run_case(length, m + n + c + rest, self.flag(), [word])
+
+    def damaged(self):
+        """A length, a size or a program out of bounds, or several."""
+        source = self.source
+        length = self.length()
+        if source.below(2):
+            length = source.choose((0, 1, 127, 129, 192, 2047, 2049, 2176, 2**32, 2**63, 2**64 - 128))
+        size = 4 * length
+        if source.below(2) or size > run_cases.MOST_BYTES:
+            size = max(0, min(size, 8192) + source.choose((-512, -16, -1, 0, 1, 16, 128)))
+        words = [source.choose((self.good, self.outside, self.reserved))() for _ in range(source.below(3))]
+        if source.below(20) == 0:
+            words = (words or [self.good()]) * (MOST_WORDS + 1)
+        return run_case(length, self.file(size), self.flag(), words)
+
+    def decoding(self):
+        (word,) = self.source.mix(1)
+        count = 8 if self.source.below(8) else self.source.below(12)
+        return decode_case(self.outside() if self.source.below(4) == 0 else word, count)
+
+    def encoding(self):
+        source = self.source
+        op = source.choose(self.operations)
+        limits = model.limits_of(op.family, op.size)
+        fields = [*op[:4], *(0 if limit is None else source.below(limit + 1) for limit in limits)]
+        for _ in range(source.below(3)):
+            fields[source.below(8)] = source.choose(NUMBERS)
+        if source.below(20) == 0:
+            fields = fields[: source.below(8)] if source.below(2) else fields + [0]
+        return encode_case(fields)
+
+    def asking(self):
+        source = self.source
+        length = source.choose((0, 127, 192, 2176, 2**64 - 128) + tuple(LENGTHS))
+        size = 4 * length + source.choose((-1, 0, 0, 0, 0, 1))
+        n = source.choose((0, 1, 30, 31, 32, 2**32, 2**64 - 1))
+        return register_case(length, max(0, size) % 2**64, n)
+
+    def text(self):
+        source = self.source
+        words = list(source.mix(source.below(12)))
+        data = packed(*words) + self.file(source.below(4))
+        return list_case(data, 21 * len(words) + 32 + source.choose((-32, -1, 0, 0, 1, 64)))
+
+    def batch(self):
+        """Every kind of case; those of the run more often, aimed ones most."""
+        kinds = [self.program] * 5 + [self.coinciding_word] * 3 + [self.aimed_word] * 8 + [self.damaged]
+        kinds += [self.decoding, self.encoding, self.asking, self.text]
+        for _ in range(BATCH):
+            kind = self.source.choose(kinds)
+            yield kind.__name__, *kind()
+
+
+# ---- the comparisons
+
+
+def against_model(program, seed, end):
+    """The cases and differences until the time is over."""
+    maker, cases, differences = Maker(Source(seed)), 0, 0
+    while cases == 0 or time.monotonic() < end:
+        batch = list(maker.batch())
+        asked = b"".join(asked for _, asked, _ in batch)
+        done = subprocess.run([program, "answer"], input=asked, stdout=subprocess.PIPE)
+        found = done.stdout
+        if done.returncode:
+            print(f"harness: the driver ended with status {done.returncode}")
+            differences += 1
+        for name, asked, wanted in batch:
+            got, found = found[: len(wanted)], found[len(wanted) :]
+            cases += 1
+            if got != wanted:
+                differences += 1
+                if differences <= TOLD:
+                    print(f"harness: {name}, case {cases}: {told(asked)}")
+                    print(f"    {got[:8].hex()}, not {wanted[:8].hex()}; bytes {places(got, wanted)} differ")
+    return cases, differences
+
+
+def told(asked):
+    """A call: its kind and its numbers, and of a run the first words."""
+    numbers = struct.unpack_from("<4Q", asked, 1)
+    words = ""
+    if asked[:1] == b"x":
+        words = "".join(f" {word:08X}" for (word,) in struct.iter_unpack("<I", asked[33 + numbers[2] :][:32]))
+    return f"{asked[:1].decode()} {numbers}{words}"
+
+
+def places(got, wanted):
+    return [at for at in range(8, len(wanted)) if got[at : at + 1] != wanted[at : at + 1]][:8]
+
+
+def ended(process):
+    """The cases and differences that the C half tells of; one that does not reach its end differs."""
+    lines = process.communicate()[0].splitlines()
+    parts = lines[-1].split() if lines else []
+    if process.returncode not in (0, 1) or len(parts) != 4:
+        print(f"harness: the C half ended with status {process.returncode}")
+        return 0, 1
+    return int(parts[0]), int(parts[2])
+
+
+def main():
+    raw = argparse.RawDescriptionHelpFormatter
+    parser = argparse.ArgumentParser(description=__doc__, usage=argparse.SUPPRESS, formatter_class=raw)
+    parser.add_argument("--seconds", type=float, default=60)
+    parser.add_argument("--seed", type=int, default=1)
+    parser.add_argument("--words", action="store_true")
+    parser.add_argument("--archive", type=Path, default=ROOT / "target/staticlib/libcapi.a")
+    parser.add_argument("--include", type=Path, default=ROOT / "include")
+    given = parser.parse_args()
+    if not given.archive.exists():
+        sys.exit(f"harness: there is no {given.archive}: ./kob staticlib builds it")
+    with tempfile.TemporaryDirectory() as folder:
+        program = Path(folder) / "harness"
+        sources = [ROOT / "tests/harness.c", ROOT / "bench/plain.c", given.archive]
+        flags = ["-std=gnu11", "-O3", "-Wall", "-Wextra", f"-I{given.include}", f"-I{ROOT / 'bench'}"]
+        subprocess.run(["gcc", *flags, *sources, "-o", program], check=True)
+
+        end = time.monotonic() + given.seconds
+        command = [program, "fuzz", str(given.seed), str(given.seconds)]
+        beside = subprocess.Popen(command, stdout=subprocess.PIPE, text=True)
+        cases, differences = against_model(program, given.seed, end)
+        print(f"harness: {cases} calls against the model", flush=True)
+        parts = [(cases, differences), ended(beside)]
+        if given.words:
+            parts.append(ended(subprocess.Popen([program, "words"], stdout=subprocess.PIPE, text=True)))
+    cases, differences = map(sum, zip(*parts))
+    print(f"harness: {cases} cases, {differences} differences")
+    sys.exit(1 if differences else 0)
+
+
+if __name__ == "__main__":
+    main()
