@@ -136,8 +136,8 @@ uint32_t kob_decode(uint32_t word, uint32_t *fields, size_t length);
  * The word of the operation that the fields name.
  *
  * KOB_BAD_FIELDS: the length is not KOB_FIELDS. KOB_NO_OPERATION: a family above 7,
- * a size above 3, a form above 2, turns above 3, a register or an index above 255,
- * or a field that the family does not use and that is not 0. Then the first of
+ * a size above 3, a form above 2, turns above 3, or a field that the family does
+ * not use and that is not 0. Then the first of
  *   KOB_NO_SIZE: only H and S for the indexed families, SQRDMLAH and SQRDMLSH;
  *   KOB_NO_ROTATION: only 90 and 270 degrees, turns 1 and 3, for CADD and SQCADD;
  *   KOB_REGISTER_LIMIT: registers are at most 31, and the second source at most

@@ -34,7 +34,7 @@ from model import ADDS, ELEMENT, INDEXED, Operation
 
 TOLD = 10  # differences told in full
 BATCH = 100  # cases for one start of the driver
-NUMBERS = (0, 1, 2, 3, 4, 7, 8, 15, 16, 31, 32, 255, 256, 2**32 - 1)  # either side of each limit
+NUMBERS = (0, 1, 2, 3, 4, 7, 8, 15, 16, 31, 32, 255, 256, 2**31, 2**32 - 1)  # either side of each limit
 PATTERN = 0xA5  # what a lent buffer holds before the call
 
 # Numbers of the C interface that document 01 has none for.
@@ -72,9 +72,9 @@ def decode_case(word, count):
 
 
 def names_operation(fields):
-    """Whether the numbers fit, and those that the family does not use are 0."""
+    """Whether family, size, form and turns are there, and what the family does not use is 0."""
     op = Operation(*fields)
-    if op.family > 7 or op.size > 3 or op.form > 2 or op.turns > 3 or max(fields[4:]) > 255:
+    if op.family > 7 or op.size > 3 or op.form > 2 or op.turns > 3:
         return False
     unused = {"form"} if op.family not in ELEMENT else {"turns"}
     if op.family in ADDS:

@@ -139,10 +139,20 @@ fn words_and_fields() {
     assert_eq!(encode(&[0, 0, 0, 2, 0, 0, 0, 0]), Err(NO_ROTATION));
     assert_eq!(encode(&[3, 1, 0, 0, 0, 0, 8, 0]), Err(REGISTER_LIMIT));
     assert_eq!(encode(&[6, 2, 0, 0, 0, 0, 0, 4]), Err(INDEX_LIMIT));
-    for (place, first) in [(0, 8), (1, 4), (2, 3), (3, 4), (4, 256), (5, 256), (6, 256), (7, 256)] {
+    let past = [
+        (0, 8, NO_OPERATION),
+        (1, 4, NO_OPERATION),
+        (2, 3, NO_OPERATION),
+        (3, 4, NO_OPERATION),
+        (4, 1 << 31, REGISTER_LIMIT),
+        (5, 1 << 31, REGISTER_LIMIT),
+        (6, 1 << 31, REGISTER_LIMIT),
+        (7, 1 << 31, INDEX_LIMIT),
+    ];
+    for (place, value, number) in past {
         let mut fields = [3, 1, 0, 0, 0, 0, 0, 0];
-        fields[place] = first;
-        assert_eq!(encode(&fields), Err(NO_OPERATION), "field {place}");
+        fields[place] = value;
+        assert_eq!(encode(&fields), Err(number), "field {place}");
     }
     for unused in [[0, 0, 1, 1, 0, 0, 0, 0], [0, 0, 0, 1, 0, 1, 0, 0], [2, 0, 0, 0, 0, 0, 0, 1], [6, 1, 0, 1, 0, 0, 0, 0]] {
         assert_eq!(encode(&unused), Err(NO_OPERATION));

@@ -1,53 +1,21 @@
 -- Which operation eight numbers name, case by case. Assumes nothing.
 use mathlib.Core.Path.{_≡_, refl, sym, ap, _∙_}
-use Prim.Native.Nat.{ℕ, zero, suc, _<_, _≤_, zero-le}
+use Prim.Native.Nat.{ℕ, zero, suc, _≤_, zero-le}
 use native.Mathlib.Omega.{arith}
-use mathlib.Core.Bool.{Bool, true, false, _&&_}
+use mathlib.Core.Bool.{true, false}
 use mathlib.Core.List.{List}
-use lib.Dec.{leb}
 use lib.ListN.{length, getD, List·getD-eq-default}
-use borrow.Author.Tests.{leb-true, eq-eqb, ne-eqb}
+use borrow.Author.Tests.{eq-eqb, ne-eqb}
 use Rattle.isa.specs.declared.types.Form.{Form}
 use Rattle.listing.proofs.Tests.{arm-past}
-use Rattle.isa.proofs.Fields.{and-left, and-right}
 use Rattle.capi.specs.declared.encode.Numbers.{Numbers}
 use Rattle.capi.specs.declared.encode.Named.{Named}
-use Rattle.capi.specs.Encode.{numbersAt, withinOf, Bytes, formOf, families, familyNamed, namedOf, namedNumber, encodeCall}
+use Rattle.capi.specs.Encode.{numbersAt, withinOf, formOf, families, familyNamed, namedOf, namedNumber, encodeCall}
 
 pub form-rest : (n : ℕ) → 2 ≤ n → Form.Vector128 ≡ formOf n
 form-rest zero h = absurd (omega arith)
 form-rest (suc zero) h = absurd (omega arith)
 form-rest (suc (suc n)) h = refl
-
--- ---- the numbers' limits
-
-record Last (d e f g : Bool) : Type 0 where
-  at-d : d ≡ true
-  at-e : e ≡ true
-  at-f : f ≡ true
-  at-g : g ≡ true
-
-last-four : (a b c d e f g : Bool) → (a && (b && (c && (d && (e && (f && g)))))) ≡ true → Last d e f g
-last-four a b c d e f g h =
-    let h₁ = and-right a (b && (c && (d && (e && (f && g))))) h in
-    let h₂ = and-right b (c && (d && (e && (f && g)))) h₁ in
-    let h₃ = and-right c (d && (e && (f && g))) h₂ in
-    let h₄ = and-right d (e && (f && g)) h₃ in
-    let h₅ = and-right e (f && g) h₄ in
-    record { at-d = and-left d (e && (f && g)) h₃; at-e = and-left e (f && g) h₄; at-f = and-left f g h₅; at-g = and-right f g h₅ }
-
-byte : (x : ℕ) → leb x 255 ≡ true → x < 256
-byte x e = let l = leb-true x 255 e in omega arith
-
-pub within-bytes : (n : Numbers) → withinOf n ≡ true → Bytes n
-within-bytes n e =
-    let l = last-four (leb (n .size) 3) (leb (n .form) 2) (leb (n .turns) 3) (leb (n .destination) 255) (leb (n .first) 255) (leb (n .second) 255) (leb (n .index) 255) e in
-    record {
-      destination = byte (n .destination) (l .at-d);
-      first = byte (n .first) (l .at-e);
-      second = byte (n .second) (l .at-f);
-      index = byte (n .index) (l .at-g);
-    }
 
 -- ---- by the family
 

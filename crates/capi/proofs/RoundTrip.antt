@@ -1,12 +1,11 @@
 -- `decode-encode-call`: the fields that `kob_decode` writes for a word give `kob_encode` that word. Assumes nothing.
 use mathlib.Core.Path.{_≡_, refl, sym, ap, _∙_}
-use Prim.Native.Nat.{ℕ, _+_, _*_, _≤_, _<_}
+use Prim.Native.Nat.{ℕ, _+_, _*_}
 use native.Mathlib.Omega.{arith}
 use mathlib.Core.Bool.{Bool, true, false}
 use mathlib.Core.List.{List}
 use lib.Dec.{leb, eqb}
 use lib.ListN.{length}
-use borrow.Author.Tests.{le-leb}
 use Rattle.isa.specs.declared.types.Size.{Size}
 use Rattle.isa.specs.declared.types.Rotation.{Rotation}
 use Rattle.isa.specs.declared.types.Form.{Form}
@@ -18,11 +17,9 @@ use Rattle.isa.specs.declared.types.Op.{Op}
 use Rattle.isa.specs.declared.types.Decoded.{Decoded}
 use Rattle.isa.specs.declared.types.Written.{Written}
 use Rattle.isa.specs.Decode.{sizeOf, rotationOf, decodeOf}
-use Rattle.isa.specs.Encode.{sizeBits, rotationBits, bySize, encodeOf}
+use Rattle.isa.specs.Encode.{sizeBits, rotationBits, encodeOf}
 use Rattle.isa.specs.Number.{decodedNumber, writtenNumber, writtenWord}
-use Rattle.isa.specs.Valid.{Valid, AddValid, MulValid, IndexedValid, ElementValid}
 use Rattle.isa.proofs.RoundTrip.{decode-encode}
-use Rattle.isa.proofs.Valid.{decoded-valid}
 use Rattle.capi.specs.declared.encode.Numbers.{Numbers}
 use Rattle.capi.specs.declared.encode.Named.{Named}
 use Rattle.capi.specs.Fields.{formNumber, addFields, mulFields, indexedFields, elementFields, fieldsOf}
@@ -66,65 +63,54 @@ form-back Form.Scalar = refl
 form-back Form.Vector64 = refl
 form-back Form.Vector128 = refl
 
--- ---- a valid operation's fields name it
+-- ---- an operation's fields name it
 
-within-all : (n : Numbers) → leb (n .size) 3 ≡ true → leb (n .form) 2 ≡ true → leb (n .turns) 3 ≡ true → n .destination < 32 → n .first < 32 → n .second < 32 → n .index < 32 → withinOf n ≡ true
-within-all n z f t d a b i =
-    rw (z, f, t, le-leb (n .destination) 255 (omega arith), le-leb (n .first) 255 (omega arith), le-leb (n .second) 255 (omega arith), le-leb (n .index) 255 (omega arith))
-
-index-small : (i h s : ℕ) (z : Size) → h ≤ 32 → s ≤ 32 → i < bySize h s z → i < 32
-index-small i h s Size.B hh hs l = omega arith
-index-small i h s Size.H hh hs l = omega arith
-index-small i h s Size.S hh hs l = omega arith
-index-small i h s Size.D hh hs l = omega arith
+within-all : (n : Numbers) → leb (n .size) 3 ≡ true → leb (n .form) 2 ≡ true → leb (n .turns) 3 ≡ true → withinOf n ≡ true
+within-all n z f t = rw (z, f, t)
 
 module _ (family : ℕ) where
-  add-within : (a : Add) → AddValid a → withinOf (numbersAt (addFields family a)) ≡ true
+  add-within : (a : Add) → withinOf (numbersAt (addFields family a)) ≡ true
   unfolding numbersAt
-  add-within a v = within-all (numbersAt (addFields family a)) (size-small (a .size)) refl (turns-small (a .rot)) (v .zdn) (omega arith) (v .zm) (omega arith)
+  add-within a = within-all (numbersAt (addFields family a)) (size-small (a .size)) refl (turns-small (a .rot))
 
   add-back : (a : Add) → addAt (numbersAt (addFields family a)) ≡ a
   unfolding numbersAt
   add-back a = rw (size-back (a .size), turns-back (a .rot))
 
-  mul-within : (a : Mul) → MulValid a → withinOf (numbersAt (mulFields family a)) ≡ true
+  mul-within : (a : Mul) → withinOf (numbersAt (mulFields family a)) ≡ true
   unfolding numbersAt
-  mul-within a v = within-all (numbersAt (mulFields family a)) (size-small (a .size)) refl (turns-small (a .rot)) (v .zda) (v .zn) (v .zm) (omega arith)
+  mul-within a = within-all (numbersAt (mulFields family a)) (size-small (a .size)) refl (turns-small (a .rot))
 
   mul-back : (a : Mul) → mulAt (numbersAt (mulFields family a)) ≡ a
   unfolding numbersAt
   mul-back a = rw (size-back (a .size), turns-back (a .rot))
 
-  indexed-within : (a : MulIndexed) → IndexedValid a → withinOf (numbersAt (indexedFields family a)) ≡ true
+  indexed-within : (a : MulIndexed) → withinOf (numbersAt (indexedFields family a)) ≡ true
   unfolding numbersAt
-  indexed-within a v =
-      within-all (numbersAt (indexedFields family a)) (size-small (a .size)) refl (turns-small (a .rot)) (v .zda) (v .zn) (v .zm)
-      (index-small (a .index) 4 2 (a .size) (omega arith) (omega arith) (v .index))
+  indexed-within a = within-all (numbersAt (indexedFields family a)) (size-small (a .size)) refl (turns-small (a .rot))
 
   indexed-back : (a : MulIndexed) → indexedAt (numbersAt (indexedFields family a)) ≡ a
   unfolding numbersAt
   indexed-back a = rw (size-back (a .size), turns-back (a .rot))
 
-  element-within : (a : ByElement) → ElementValid a → withinOf (numbersAt (elementFields family a)) ≡ true
+  element-within : (a : ByElement) → withinOf (numbersAt (elementFields family a)) ≡ true
   unfolding numbersAt
-  element-within a v =
-      within-all (numbersAt (elementFields family a)) (size-small (a .size)) (form-small (a .form)) refl (v .rd) (v .rn) (v .rm)
-      (index-small (a .index) 8 4 (a .size) (omega arith) (omega arith) (v .index))
+  element-within a = within-all (numbersAt (elementFields family a)) (size-small (a .size)) (form-small (a .form)) refl
 
   element-back : (a : ByElement) → elementAt (numbersAt (elementFields family a)) ≡ a
   unfolding numbersAt
   element-back a = rw (form-back (a .form), size-back (a .size))
 
-pub fields-named : (op : Op) → Valid op → namedOf (numbersAt (fieldsOf op)) ≡ Named.Operation op
+pub fields-named : (op : Op) → namedOf (numbersAt (fieldsOf op)) ≡ Named.Operation op
 unfolding fieldsOf numbersAt familyNamed
-fields-named (Op.Cadd a) v = sym (named-within (numbersAt (addFields 0 a)) (add-within 0 a v)) ∙ ap (λ (x : Add). Named.Operation (Op.Cadd x)) (add-back 0 a)
-fields-named (Op.Sqcadd a) v = sym (named-within (numbersAt (addFields 1 a)) (add-within 1 a v)) ∙ ap (λ (x : Add). Named.Operation (Op.Sqcadd x)) (add-back 1 a)
-fields-named (Op.Cmla a) v = sym (named-within (numbersAt (mulFields 2 a)) (mul-within 2 a v)) ∙ ap (λ (x : Mul). Named.Operation (Op.Cmla x)) (mul-back 2 a)
-fields-named (Op.CmlaIndexed a) v = sym (named-within (numbersAt (indexedFields 3 a)) (indexed-within 3 a v)) ∙ ap (λ (x : MulIndexed). Named.Operation (Op.CmlaIndexed x)) (indexed-back 3 a)
-fields-named (Op.Sqrdcmlah a) v = sym (named-within (numbersAt (mulFields 4 a)) (mul-within 4 a v)) ∙ ap (λ (x : Mul). Named.Operation (Op.Sqrdcmlah x)) (mul-back 4 a)
-fields-named (Op.SqrdcmlahIndexed a) v = sym (named-within (numbersAt (indexedFields 5 a)) (indexed-within 5 a v)) ∙ ap (λ (x : MulIndexed). Named.Operation (Op.SqrdcmlahIndexed x)) (indexed-back 5 a)
-fields-named (Op.Sqrdmlah a) v = sym (named-within (numbersAt (elementFields 6 a)) (element-within 6 a v)) ∙ ap (λ (x : ByElement). Named.Operation (Op.Sqrdmlah x)) (element-back 6 a)
-fields-named (Op.Sqrdmlsh a) v = sym (named-within (numbersAt (elementFields 7 a)) (element-within 7 a v)) ∙ ap (λ (x : ByElement). Named.Operation (Op.Sqrdmlsh x)) (element-back 7 a)
+fields-named (Op.Cadd a) = sym (named-within (numbersAt (addFields 0 a)) (add-within 0 a)) ∙ ap (λ (x : Add). Named.Operation (Op.Cadd x)) (add-back 0 a)
+fields-named (Op.Sqcadd a) = sym (named-within (numbersAt (addFields 1 a)) (add-within 1 a)) ∙ ap (λ (x : Add). Named.Operation (Op.Sqcadd x)) (add-back 1 a)
+fields-named (Op.Cmla a) = sym (named-within (numbersAt (mulFields 2 a)) (mul-within 2 a)) ∙ ap (λ (x : Mul). Named.Operation (Op.Cmla x)) (mul-back 2 a)
+fields-named (Op.CmlaIndexed a) = sym (named-within (numbersAt (indexedFields 3 a)) (indexed-within 3 a)) ∙ ap (λ (x : MulIndexed). Named.Operation (Op.CmlaIndexed x)) (indexed-back 3 a)
+fields-named (Op.Sqrdcmlah a) = sym (named-within (numbersAt (mulFields 4 a)) (mul-within 4 a)) ∙ ap (λ (x : Mul). Named.Operation (Op.Sqrdcmlah x)) (mul-back 4 a)
+fields-named (Op.SqrdcmlahIndexed a) = sym (named-within (numbersAt (indexedFields 5 a)) (indexed-within 5 a)) ∙ ap (λ (x : MulIndexed). Named.Operation (Op.SqrdcmlahIndexed x)) (indexed-back 5 a)
+fields-named (Op.Sqrdmlah a) = sym (named-within (numbersAt (elementFields 6 a)) (element-within 6 a)) ∙ ap (λ (x : ByElement). Named.Operation (Op.Sqrdmlah x)) (element-back 6 a)
+fields-named (Op.Sqrdmlsh a) = sym (named-within (numbersAt (elementFields 7 a)) (element-within 7 a)) ∙ ap (λ (x : ByElement). Named.Operation (Op.Sqrdmlsh x)) (element-back 7 a)
 
 -- ---- the calls
 
@@ -139,11 +125,11 @@ fields-eight (Op.SqrdcmlahIndexed a) = refl
 fields-eight (Op.Sqrdmlah a) = refl
 fields-eight (Op.Sqrdmlsh a) = refl
 
-encode-fields : (op : Op) (w : ℕ) → Valid op → encodeOf op ≡ Written.Word w → encodeCall (fieldsOf op) ≡ w * 0x1_0000_0000
+encode-fields : (op : Op) (w : ℕ) → encodeOf op ≡ Written.Word w → encodeCall (fieldsOf op) ≡ w * 0x1_0000_0000
 unfolding namedNumber writtenPacked writtenNumber writtenWord
-encode-fields op w v e =
+encode-fields op w e =
     sym (encode-eight (fieldsOf op) (fields-eight op))
-    ∙ ap namedNumber (fields-named op v)
+    ∙ ap namedNumber (fields-named op)
     ∙ ap writtenPacked e
     ∙ omega arith
 
@@ -151,7 +137,7 @@ picked : (w : ℕ) (fields : List ℕ) (t : Bool) (d : Decoded) → decodeOf w �
     → pickDecode t (decodeAnswer d fields) (record { answer = badPart; fields = fields }) .answer ≡ 0
     → encodeCall (pickDecode t (decodeAnswer d fields) (record { answer = badPart; fields = fields }) .fields) ≡ w * 0x1_0000_0000
 unfolding decodedNumber
-picked w fields true (Decoded.Operation op) e h = encode-fields op w (decoded-valid w op e) (decode-encode w op e)
+picked w fields true (Decoded.Operation op) e h = encode-fields op w (decode-encode w op e)
 picked w fields true Decoded.Reserved e h = absurd (omega arith)
 picked w fields true Decoded.Outside e h = absurd (omega arith)
 picked w fields false d e h = absurd (omega arith)

@@ -1,5 +1,5 @@
 -- Which operation eight fields name, and what `kob_encode` answers.
-use Prim.Native.Nat.{ℕ, zero, suc, _+_, _*_, _<_}
+use Prim.Native.Nat.{ℕ, zero, suc, _+_, _*_}
 use mathlib.Core.Bool.{Bool, true, false, _&&_}
 use mathlib.Core.List.{List, [], _∷_}
 use lib.Dec.{eqb, leb}
@@ -31,23 +31,9 @@ numbersAt l = record {
   index = getD l 7 0;
 }
 
--- a size is 0 to 3, a form 0 to 2, the turns 0 to 3; registers and the index are numbers of 8 bits
+-- a size is 0 to 3, a form 0 to 2, the turns 0 to 3; writing judges registers and the index
 abbrev pub withinOf : Numbers → Bool
-withinOf n =
-    leb (n .size) 3
-    && (leb (n .form) 2
-    && (leb (n .turns) 3
-    && (leb (n .destination) 255
-    && (leb (n .first) 255
-    && (leb (n .second) 255
-    && leb (n .index) 255)))))
-
--- the registers and the index have room in an operation
-pub record Bytes (n : Numbers) : Type 0 where
-  pub destination : n .destination < 256
-  pub first : n .first < 256
-  pub second : n .second < 256
-  pub index : n .index < 256
+withinOf n = leb (n .size) 3 && (leb (n .form) 2 && leb (n .turns) 3)
 
 -- 0 scalar, 1 vector of 64 bits, 2 vector of 128
 abbrev pub formOf : ℕ → Form

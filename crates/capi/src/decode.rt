@@ -58,9 +58,9 @@ fn add_fields(family: u32, a: Add) -> [u32; 8]
         size_number(size),
         0,
         turns_number(rot),
-        a.zdn as u32,
+        a.zdn,
         0,
-        a.zm as u32,
+        a.zm,
         0,
     ]
 }
@@ -75,9 +75,9 @@ fn mul_fields(family: u32, a: Mul) -> [u32; 8]
         size_number(size),
         0,
         turns_number(rot),
-        a.zda as u32,
-        a.zn as u32,
-        a.zm as u32,
+        a.zda,
+        a.zn,
+        a.zm,
         0,
     ]
 }
@@ -92,10 +92,10 @@ fn indexed_fields(family: u32, a: MulIndexed) -> [u32; 8]
         size_number(size),
         0,
         turns_number(rot),
-        a.zda as u32,
-        a.zn as u32,
-        a.zm as u32,
-        a.index as u32,
+        a.zda,
+        a.zn,
+        a.zm,
+        a.index,
     ]
 }
 
@@ -109,10 +109,10 @@ fn element_fields(family: u32, a: ByElement) -> [u32; 8]
         size_number(size),
         form_number(form),
         0,
-        a.rd as u32,
-        a.rn as u32,
-        a.rm as u32,
-        a.index as u32,
+        a.rd,
+        a.rn,
+        a.rm,
+        a.index,
     ]
 }
 

@@ -3,7 +3,7 @@ ghost use mathlib.Core.Path.{_≡_};
 ghost use lib.ListN.{length};
 ghost use Rattle.isa.specs.Decode.{sizeOf, rotationOf};
 ghost use Rattle.codec.specs.Pair.{addBy, mulBy, indexedBy, elementBy};
-ghost use Rattle.capi.specs.Encode.{numbersAt, withinOf, Bytes, formOf, addAt, mulAt, indexedAt, elementAt, namedIf, addUnused, mulUnused, indexedUnused, elementUnused, familyNamed, namedOf, writtenPacked, namedNumber, encodeCall};
+ghost use Rattle.capi.specs.Encode.{numbersAt, withinOf, formOf, addAt, mulAt, indexedAt, elementAt, namedIf, addUnused, mulUnused, indexedUnused, elementUnused, familyNamed, namedOf, writtenPacked, namedNumber, encodeCall};
 use isa::types::Add;
 use isa::types::ByElement;
 use isa::types::Form;
@@ -52,11 +52,7 @@ fn read_numbers(fields: &[u32]) -> Numbers
 fn within(n: Numbers) -> bool
     ensures { λ r. ⌜ r ≡ withinOf n ⌝ }
 {
-    (n.size <= 3)
-        & ((n.form <= 2)
-            & ((n.turns <= 3)
-                & ((n.destination <= 255)
-                    & ((n.first <= 255) & ((n.second <= 255) & (n.index <= 255))))))
+    (n.size <= 3) & ((n.form <= 2) & (n.turns <= 3))
 }
 
 fn size_of(n: u32) -> Size
@@ -91,58 +87,54 @@ fn form_of(n: u32) -> Form
     }
 }
 
-// ---- the fields of an operation; `named_by` has checked that they have room
+// ---- the fields of an operation
 
 fn add_at(n: Numbers) -> Add
-    requires { ⌜ Bytes n ⌝ }
     ensures { λ r. ⌜ r ≡ addAt n ⌝ }
 {
     Add {
         size: size_of(n.size),
         rot: rotation_of(n.turns),
-        zm: n.second as u8,
-        zdn: n.destination as u8,
+        zm: n.second,
+        zdn: n.destination,
     }
 }
 
 fn mul_at(n: Numbers) -> Mul
-    requires { ⌜ Bytes n ⌝ }
     ensures { λ r. ⌜ r ≡ mulAt n ⌝ }
 {
     Mul {
         size: size_of(n.size),
         rot: rotation_of(n.turns),
-        zm: n.second as u8,
-        zn: n.first as u8,
-        zda: n.destination as u8,
+        zm: n.second,
+        zn: n.first,
+        zda: n.destination,
     }
 }
 
 fn indexed_at(n: Numbers) -> MulIndexed
-    requires { ⌜ Bytes n ⌝ }
     ensures { λ r. ⌜ r ≡ indexedAt n ⌝ }
 {
     MulIndexed {
         size: size_of(n.size),
         rot: rotation_of(n.turns),
-        zm: n.second as u8,
-        index: n.index as u8,
-        zn: n.first as u8,
-        zda: n.destination as u8,
+        zm: n.second,
+        index: n.index,
+        zn: n.first,
+        zda: n.destination,
     }
 }
 
 fn element_at(n: Numbers) -> ByElement
-    requires { ⌜ Bytes n ⌝ }
     ensures { λ r. ⌜ r ≡ elementAt n ⌝ }
 {
     ByElement {
         form: form_of(n.form),
         size: size_of(n.size),
-        rm: n.second as u8,
-        index: n.index as u8,
-        rn: n.first as u8,
-        rd: n.destination as u8,
+        rm: n.second,
+        index: n.index,
+        rn: n.first,
+        rd: n.destination,
     }
 }
 
@@ -201,7 +193,6 @@ fn named_if(unused: bool, op: Op) -> Named
 }
 
 fn add_named(saturating: bool, n: Numbers) -> Named
-    requires { ⌜ Bytes n ⌝ }
     ensures { λ r. ⌜ r ≡ namedIf (addUnused n) (addBy saturating (addAt n)) ⌝ }
 {
     let unused = (n.form == 0) & ((n.first == 0) & (n.index == 0));
@@ -209,7 +200,6 @@ fn add_named(saturating: bool, n: Numbers) -> Named
 }
 
 fn mul_named(rounding: bool, n: Numbers) -> Named
-    requires { ⌜ Bytes n ⌝ }
     ensures { λ r. ⌜ r ≡ namedIf (mulUnused n) (mulBy rounding (mulAt n)) ⌝ }
 {
     let unused = (n.form == 0) & (n.index == 0);
@@ -217,21 +207,18 @@ fn mul_named(rounding: bool, n: Numbers) -> Named
 }
 
 fn indexed_named(rounding: bool, n: Numbers) -> Named
-    requires { ⌜ Bytes n ⌝ }
     ensures { λ r. ⌜ r ≡ namedIf (indexedUnused n) (indexedBy rounding (indexedAt n)) ⌝ }
 {
     named_if(n.form == 0, indexed_op(rounding, indexed_at(n)))
 }
 
 fn element_named(minus: bool, n: Numbers) -> Named
-    requires { ⌜ Bytes n ⌝ }
     ensures { λ r. ⌜ r ≡ namedIf (elementUnused n) (elementBy minus (elementAt n)) ⌝ }
 {
     named_if(n.turns == 0, element_op(minus, element_at(n)))
 }
 
 fn family_named(n: Numbers) -> Named
-    requires { ⌜ Bytes n ⌝ }
     ensures { λ r. ⌜ r ≡ familyNamed n ⌝ }
 {
     let family = n.family;

@@ -3,6 +3,7 @@ use Prim.Native.Nat.{ℕ, zero, suc, _+_, _*_, _/_, _%_, _^_, _<_, _≤_}
 use mathlib.Core.Path.{_≡_, refl, sym, ap, _∙_}
 use mathlib.Core.List.{List, [], _∷_}
 use mathlib.Core.Bool.{Bool, true, false}
+use mathlib.Core.Logic.{inl, inr}
 use native.Mathlib.Omega.{arith}
 use native.Mathlib.Nat.{div-div-eq-div-mul}
 use lib.ListN.{take, drop}
@@ -17,7 +18,7 @@ use Rattle.isa.specs.Table.{size, Q, i2, i1, ZmH, ZmS, cadd, sqcadd, cmla, sqrd
 use Rattle.isa.specs.Decode.{table, decodeOf, addOf, mulOf, indexedOf, elementOf, vectorOf, sizeOf, rotationOf, addRotationOf}
 use Rattle.isa.proofs.Fields.{Fixed, fixed-matches}
 use Rattle.isa.proofs.Table.{_⨾_, row-read, NoneFixed, none-join, none-outside}
-use Rattle.codec.specs.Pair.{formTop, addBy, addOpcode, mulBy, mulOpcode, indexedBy, indexedOpcode, elementBy, elementOpcode}
+use Rattle.codec.specs.Pair.{formTop, ElementTop, addBy, addOpcode, mulBy, mulOpcode, indexedBy, indexedOpcode, elementBy, elementOpcode}
 
 -- ---- the last arms of the choices by a number
 
@@ -36,6 +37,11 @@ rotation-rest (suc (suc (suc n))) h = refl
 pub add-rotation-rest : (n : ℕ) → 1 ≤ n → Rotation.R270 ≡ addRotationOf n
 add-rotation-rest zero h = absurd (omega arith)
 add-rotation-rest (suc n) h = refl
+
+pub form-rest : (n : ℕ) → ElementTop n → (n ≡ 0x2F → ⊥) → (n ≡ 0x6F → ⊥) → n ≡ formTop Form.Scalar
+form-rest n (inl e) h1 h2 = absurd (h1 e)
+form-rest n (inr (inl e)) h1 h2 = absurd (h2 e)
+form-rest n (inr (inr e)) h1 h2 = e
 
 module _ (w : ℕ) (fits : w < 2 ^ 32) where
   -- ---- bits 31 to 24 are 45
@@ -107,8 +113,8 @@ module _ (w : ℕ) where
   joined : NoneFixed (take 2 table) w → NoneFixed (take 6 (drop 2 table)) w → NoneFixed (drop 8 table) w → decodeOf w ≡ Decoded.Outside
   joined a p e = none-outside w (none-join (take 2 table) (drop 2 table) w a (none-join (take 6 (drop 2 table)) (drop 8 table) w p e))
 
-  pub outside-top : w < 2 ^ 32 → (w / 16777216 ≡ 0x44 → ⊥) → (w / 16777216 ≡ 0x45 → ⊥) → (w / 16777216 ≡ 0x2F → ⊥) → (w / 16777216 ≡ 0x6F → ⊥) → (w / 16777216 ≡ 0x7F → ⊥) → decodeOf w ≡ Decoded.Outside
-  outside-top fits h1 h2 h3 h4 h5 = joined (no-add h2 fits) (no-product h1 fits) (no-element h3 h4 h5 fits)
+  pub outside-top : w < 2 ^ 32 → (w / 16777216 ≡ 0x44 → ⊥) → (w / 16777216 ≡ 0x45 → ⊥) → (ElementTop (w / 16777216) → ⊥) → decodeOf w ≡ Decoded.Outside
+  outside-top fits h1 h2 h = joined (no-add h2 fits) (no-product h1 fits) (no-element (λ e. h (inl e)) (λ e. h (inr (inl e))) (λ e. h (inr (inr e))) fits)
 
   pub outside-add : w < 2 ^ 32 → w / 16777216 ≡ 0x45 → (w / 2048 % 2048 ≡ 27 → ⊥) → (w / 2048 % 2048 ≡ 59 → ⊥) → decodeOf w ≡ Decoded.Outside
   outside-add fits t h1 h2 = joined ((λ f. h1 (f .1 .0)) ⨾ (λ f. h2 (f .1 .0)) ⨾ tt) (no-product (omega arith) fits) (no-element (omega arith) (omega arith) (omega arith) fits)

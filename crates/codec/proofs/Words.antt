@@ -1,27 +1,35 @@
--- The encoder's sums of shifted fields are the words of the table. Assumes nothing.
-use Prim.Native.Nat.{ℕ, _+_, _*_, _/_, _%_, _^_, _<_}
+-- The encoder's sums of shifted fields, each cut to its place, are the words of the table where the fields are valid. Assumes nothing.
+use Prim.Native.Nat.{ℕ, _+_, _*_, _/_, _%_, _<_}
 use mathlib.Core.Path.{_≡_, refl, sym, ap, _∙_}
 use mathlib.Core.List.{List, [], _∷_}
 use native.Mathlib.Omega.{arith}
 use Rattle.isa.specs.declared.types.Size.{Size}
 use Rattle.isa.specs.declared.types.Form.{Form}
+use Rattle.isa.specs.declared.types.Add.{Add}
+use Rattle.isa.specs.declared.types.Mul.{Mul}
+use Rattle.isa.specs.declared.types.MulIndexed.{MulIndexed}
+use Rattle.isa.specs.declared.types.ByElement.{ByElement}
 use Rattle.isa.specs.Field.{written}
 use Rattle.isa.specs.Table.{addRow, mulRow, indexedRow, scalarRow, vectorRow, i2, i1, ZmH, ZmS}
-use Rattle.isa.specs.Encode.{bySize, formWritten, elementFieldsOf}
+use Rattle.isa.specs.Encode.{sizeBits, rotationBits, addRotationBits, bySize, formWritten, elementFieldsOf, addChecks, mulChecks, indexedChecks, elementChecks}
+use Rattle.isa.specs.Valid.{AddValid, MulValid, IndexedValid, ElementValid}
 use Rattle.codec.specs.Base.{formBase}
 
-pub add-sum : (base s r zm zdn : ℕ) → s < 4 → r < 2 → zm < 256 → base + s * 4194304 % 4294967296 + r * 1024 % 4294967296 + zm * 32 % 4294967296 + zdn ≡ written (addRow base) (s ∷ r ∷ zm ∷ zdn ∷ [])
-add-sum base s r zm zdn hs hr hz = omega arith
+pub add-sum : (base : ℕ) (a : Add) {s r : ℕ} → (s ≡ sizeBits (a .size)) × (s < 4) → (r ≡ addRotationBits (a .rot)) × (r < 2) → AddValid a → base + s * 4194304 % 4294967296 + r * 1024 % 4294967296 + a .zm % 32 * 32 % 4294967296 + a .zdn % 32 ≡ addChecks (addRow base) a .word
+add-sum base a hs hr v = omega arith
 
-pub mul-sum : (base s zm r zn zda : ℕ) → s < 4 → zm < 256 → r < 4 → zn < 256 → base + s * 4194304 % 4294967296 + zm * 65536 % 4294967296 + r * 1024 % 4294967296 + zn * 32 % 4294967296 + zda ≡ written (mulRow base) (s ∷ zm ∷ r ∷ zn ∷ zda ∷ [])
-mul-sum base s zm r zn zda hs hz hr hn = omega arith
+pub mul-sum : (base : ℕ) (a : Mul) {s r : ℕ} → (s ≡ sizeBits (a .size)) × (s < 4) → (r ≡ rotationBits (a .rot)) × (r < 4) → MulValid a → base + s * 4194304 % 4294967296 + a .zm % 32 * 65536 % 4294967296 + r * 1024 % 4294967296 + a .zn % 32 * 32 % 4294967296 + a .zda % 32 ≡ mulChecks (mulRow base) a .word
+mul-sum base a hs hr v = omega arith
 
 -- indexed: by the size, the base with the index above Zm
-pub indexed-sum : (z : Size) (h s i zm r zn zda : ℕ) → i < 256 → zm < 256 → r < 4 → zn < 256 → bySize (h + i * 524288 % 4294967296) (s + i * 1048576 % 4294967296) z + zm * 65536 % 4294967296 + r * 1024 % 4294967296 + zn * 32 % 4294967296 + zda ≡ written (bySize (indexedRow i2 ZmH h) (indexedRow i1 ZmS s) z) (i ∷ zm ∷ r ∷ zn ∷ zda ∷ [])
-indexed-sum Size.B h s i zm r zn zda hi hz hr hn = omega arith
-indexed-sum Size.H h s i zm r zn zda hi hz hr hn = omega arith
-indexed-sum Size.S h s i zm r zn zda hi hz hr hn = omega arith
-indexed-sum Size.D h s i zm r zn zda hi hz hr hn = omega arith
+pub indexed-sum : (h s : ℕ) (a : MulIndexed) {b r : ℕ} → b ≡ bySize (h + a .index % 4 * 524288 % 4294967296) (s + a .index % 2 * 1048576 % 4294967296) (a .size) → (r ≡ rotationBits (a .rot)) × (r < 4) → IndexedValid a → b + a .zm % 32 * 65536 % 4294967296 + r * 1024 % 4294967296 + a .zn % 32 * 32 % 4294967296 + a .zda % 32 ≡ indexedChecks (indexedRow i2 ZmH h) (indexedRow i1 ZmS s) a .word
+indexed-sum h s a {b} {r} hb hr v = by (a .size) hb (v .index)
+  where
+    by : (z : Size) → b ≡ bySize (h + a .index % 4 * 524288 % 4294967296) (s + a .index % 2 * 1048576 % 4294967296) z → a .index < bySize 4 2 z → b + a .zm % 32 * 65536 % 4294967296 + r * 1024 % 4294967296 + a .zn % 32 * 32 % 4294967296 + a .zda % 32 ≡ written (bySize (indexedRow i2 ZmH h) (indexedRow i1 ZmS s) z) (a .index ∷ a .zm ∷ rotationBits (a .rot) ∷ a .zn ∷ a .zda ∷ [])
+    by Size.B e hi = omega arith
+    by Size.H e hi = omega arith
+    by Size.S e hi = omega arith
+    by Size.D e hi = omega arith
 
 -- by element: the form's base is the row of the form, with Q for a vector
 form-word : (scalar vector : ℕ) (f : Form) (vs : List ℕ) → formWritten (scalarRow scalar) (vectorRow vector) f vs ≡ written (scalarRow (formBase scalar vector f)) vs
@@ -29,11 +37,18 @@ form-word scalar vector Form.Scalar vs = refl
 form-word scalar vector Form.Vector64 vs = omega arith
 form-word scalar vector Form.Vector128 vs = omega arith
 
-pub element-sum : (z : Size) (f : Form) (scalar vector b i rm rn rd : ℕ) → i < 256 → rm < 256 → rn < 256 → b ≡ formBase scalar vector f → b + bySize (4194304 + i / 2 % 2 * 2097152 % 4294967296 + i % 2 * 1048576 % 4294967296 + i / 4 * 2048 % 4294967296) (8388608 + i % 2 * 2097152 % 4294967296 + i / 2 * 2048 % 4294967296) z + rm * 65536 % 4294967296 + rn * 32 % 4294967296 + rd ≡ formWritten (scalarRow scalar) (vectorRow vector) f (elementFieldsOf (record { form = f; size = z; rm = rm; index = i; rn = rn; rd = rd }))
-element-sum z f scalar vector b i rm rn rd hi hm hn e = by z ∙ ap (λ (x : ℕ). written (scalarRow x) (elementFieldsOf (record { form = f; size = z; rm = rm; index = i; rn = rn; rd = rd }))) e ∙ sym (form-word scalar vector f (elementFieldsOf (record { form = f; size = z; rm = rm; index = i; rn = rn; rd = rd })))
+-- by element: the size and the bits of the index, by the size
+element-index : (i : ℕ) (z : Size) → i < bySize 8 4 z → bySize (4194304 + i / 2 % 2 * 2097152 % 4294967296 + i % 2 * 1048576 % 4294967296 + i / 4 % 2 * 2048 % 4294967296) (8388608 + i % 2 * 2097152 % 4294967296 + i / 2 % 2 * 2048 % 4294967296) z ≡ bySize (4194304 + i / 2 % 2 * 2097152 + i % 2 * 1048576 + i / 4 * 2048) (8388608 + i % 2 * 2097152 + i / 2 * 2048) z
+element-index i Size.B h = omega arith
+element-index i Size.H h = omega arith
+element-index i Size.S h = omega arith
+element-index i Size.D h = omega arith
+
+pub element-sum : (scalar vector : ℕ) (a : ByElement) {b d : ℕ} → b ≡ formBase scalar vector (a .form) → d ≡ bySize (4194304 + a .index / 2 % 2 * 2097152 % 4294967296 + a .index % 2 * 1048576 % 4294967296 + a .index / 4 % 2 * 2048 % 4294967296) (8388608 + a .index % 2 * 2097152 % 4294967296 + a .index / 2 % 2 * 2048 % 4294967296) (a .size) → ElementValid a → b + d + a .rm % 32 * 65536 % 4294967296 + a .rn % 32 * 32 % 4294967296 + a .rd % 32 ≡ elementChecks (scalarRow scalar) (vectorRow vector) a .word
+element-sum scalar vector a {b} {d} hb hd v = by (a .size) (hd ∙ element-index (a .index) (a .size) (v .index)) ∙ ap (λ (x : ℕ). written (scalarRow x) (elementFieldsOf a)) hb ∙ sym (form-word scalar vector (a .form) (elementFieldsOf a))
   where
-    by : (z : Size) → b + bySize (4194304 + i / 2 % 2 * 2097152 % 4294967296 + i % 2 * 1048576 % 4294967296 + i / 4 * 2048 % 4294967296) (8388608 + i % 2 * 2097152 % 4294967296 + i / 2 * 2048 % 4294967296) z + rm * 65536 % 4294967296 + rn * 32 % 4294967296 + rd ≡ written (scalarRow b) (elementFieldsOf (record { form = f; size = z; rm = rm; index = i; rn = rn; rd = rd }))
-    by Size.B = omega arith
-    by Size.H = omega arith
-    by Size.S = omega arith
-    by Size.D = omega arith
+    by : (z : Size) → d ≡ bySize (4194304 + a .index / 2 % 2 * 2097152 + a .index % 2 * 1048576 + a .index / 4 * 2048) (8388608 + a .index % 2 * 2097152 + a .index / 2 * 2048) z → b + d + a .rm % 32 * 65536 % 4294967296 + a .rn % 32 * 32 % 4294967296 + a .rd % 32 ≡ written (scalarRow b) (elementFieldsOf (record { form = a .form; size = z; rm = a .rm; index = a .index; rn = a .rn; rd = a .rd }))
+    by Size.B e = omega arith
+    by Size.H e = omega arith
+    by Size.S e = omega arith
+    by Size.D e = omega arith

@@ -1,6 +1,8 @@
 -- Families that differ in one choice, and the opcode bits that make it, for the contracts of the decoder's inner functions.
 use Prim.Native.Nat.{ℕ}
+use mathlib.Core.Path.{_≡_}
 use mathlib.Core.Bool.{Bool, true, false}
+use mathlib.Core.Logic.{_⊎_}
 use Rattle.isa.specs.declared.types.Form.{Form}
 use Rattle.isa.specs.declared.types.Add.{Add}
 use Rattle.isa.specs.declared.types.Mul.{Mul}
@@ -13,6 +15,9 @@ abbrev pub formTop : Form → ℕ
 formTop Form.Scalar = 0x7F
 formTop Form.Vector64 = 0x2F
 formTop Form.Vector128 = 0x6F
+
+abbrev pub ElementTop : ℕ → Type 0
+ElementTop top = (top ≡ 0x2F) ⊎ ((top ≡ 0x6F) ⊎ (top ≡ 0x7F))
 
 -- CADD, or with saturation SQCADD, and bits 21 to 11
 abbrev pub addBy : Bool → Add → Op

@@ -1,10 +1,10 @@
 // The operation that a word is: its size, rotation and opcode fields, taken out as numbers, choose the family and the form.
 ghost use mathlib.Core.Path.{_≡_};
-ghost use Prim.Native.Nat.{_/_, _%_, _<_};
+ghost use Prim.Native.Nat.{_/_, _%_};
 ghost use Rattle.isa.specs.Field.{bits};
 ghost use Rattle.isa.specs.Table.{size};
 ghost use Rattle.isa.specs.Decode.{sizeOf, rotationOf, addRotationOf, addOf, mulOf, indexedWith, elementWith, elementOf, decodeOf};
-ghost use Rattle.codec.specs.Pair.{formTop, addBy, mulBy, mulOpcode, indexedBy, indexedOpcode, elementBy, elementOpcode};
+ghost use Rattle.codec.specs.Pair.{formTop, ElementTop, addBy, mulBy, mulOpcode, indexedBy, indexedOpcode, elementBy, elementOpcode};
 use isa::types::Add;
 use isa::types::ByElement;
 use isa::types::Decoded;
@@ -46,6 +46,18 @@ fn add_rotation_of(n: u32) -> Rotation
     }
 }
 
+// One of the by-element forms: `decode` has looked at bits 31 to 24.
+fn form_of(top: u32) -> Form
+    requires { ⌜ ElementTop top ⌝ }
+    ensures { λ r. ⌜ top ≡ formTop r ⌝ }
+{
+    match top {
+        0x2F => Form::Vector64,
+        0x6F => Form::Vector128,
+        _ => Form::Scalar,
+    }
+}
+
 // ---- the fields of a row
 
 fn read_add(word: u32) -> Add
@@ -54,8 +66,8 @@ fn read_add(word: u32) -> Add
     Add {
         size: size_of((word >> 22) % 4),
         rot: add_rotation_of((word >> 10) % 2),
-        zm: ((word >> 5) % 32) as u8,
-        zdn: (word % 32) as u8,
+        zm: (word >> 5) % 32,
+        zdn: word % 32,
     }
 }
 
@@ -65,37 +77,35 @@ fn read_mul(word: u32) -> Mul
     Mul {
         size: size_of((word >> 22) % 4),
         rot: rotation_of((word >> 10) % 4),
-        zm: ((word >> 16) % 32) as u8,
-        zn: ((word >> 5) % 32) as u8,
-        zda: (word % 32) as u8,
+        zm: (word >> 16) % 32,
+        zn: (word >> 5) % 32,
+        zda: word % 32,
     }
 }
 
 fn read_indexed(word: u32, size: Size, zm: u32, index: u32) -> MulIndexed
-    requires { ⌜ (zm < 32) × (index < 8) ⌝ }
     ensures { λ r. ⌜ r ≡ indexedWith size zm index word ⌝ }
 {
     MulIndexed {
         size,
         rot: rotation_of((word >> 10) % 4),
-        zm: zm as u8,
-        index: index as u8,
-        zn: ((word >> 5) % 32) as u8,
-        zda: (word % 32) as u8,
+        zm,
+        index,
+        zn: (word >> 5) % 32,
+        zda: word % 32,
     }
 }
 
 fn read_element(word: u32, form: Form, size: Size, rm: u32, index: u32) -> ByElement
-    requires { ⌜ (rm < 32) × (index < 8) ⌝ }
     ensures { λ r. ⌜ r ≡ elementWith form size rm index word ⌝ }
 {
     ByElement {
         form,
         size,
-        rm: rm as u8,
-        index: index as u8,
-        rn: ((word >> 5) % 32) as u8,
-        rd: (word % 32) as u8,
+        rm,
+        index,
+        rn: (word >> 5) % 32,
+        rd: word % 32,
     }
 }
 
@@ -245,9 +255,7 @@ pub fn decode(word: u32) -> Decoded
     match top {
         0x44 => decode_product(word),
         0x45 => decode_add(word),
-        0x2F => decode_element(word, Form::Vector64),
-        0x6F => decode_element(word, Form::Vector128),
-        0x7F => decode_element(word, Form::Scalar),
+        0x2F | 0x6F | 0x7F => decode_element(word, form_of(top)),
         _ => Decoded::Outside,
     }
 }

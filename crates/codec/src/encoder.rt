@@ -113,7 +113,7 @@ fn answered(size: bool, rotation: bool, registers: bool, index: bool, word: u32)
     Written::Word(word)
 }
 
-// ---- the families
+// ---- the families: a field is cut to its place, so that every sum fits; the word counts only where no field was too large
 
 fn encode_add(base: u32, a: Add) -> Written
     requires { ⌜ base < 2 ^ 31 ⌝ }
@@ -126,8 +126,8 @@ fn encode_add(base: u32, a: Add) -> Written
     let word = base
         + (size_bits(size) << 22)
         + (add_rotation_bits(rot) << 10)
-        + ((zm as u32) << 5)
-        + (zdn as u32);
+        + (zm % 32 << 5)
+        + zdn % 32;
     answered(
         true,
         add_rotation(rot),
@@ -148,10 +148,10 @@ fn encode_mul(base: u32, a: Mul) -> Written
     let zda = a.zda;
     let word = base
         + (size_bits(size) << 22)
-        + ((zm as u32) << 16)
+        + (zm % 32 << 16)
         + (rotation_bits(rot) << 10)
-        + ((zn as u32) << 5)
-        + (zda as u32);
+        + (zn % 32 << 5)
+        + zda % 32;
     answered(
         true,
         true,
@@ -168,15 +168,15 @@ fn encode_indexed(base_h: u32, base_s: u32, a: MulIndexed) -> Written
 {
     let size = a.size;
     let rot = a.rot;
-    let zm = a.zm as u32;
-    let index = a.index as u32;
+    let zm = a.zm;
+    let index = a.index;
     let zn = a.zn;
     let zda = a.zda;
-    let word = by_size(base_h + (index << 19), base_s + (index << 20), size)
-        + (zm << 16)
+    let word = by_size(base_h + (index % 4 << 19), base_s + (index % 2 << 20), size)
+        + (zm % 32 << 16)
         + (rotation_bits(rot) << 10)
-        + ((zn as u32) << 5)
-        + (zda as u32);
+        + (zn % 32 << 5)
+        + zda % 32;
     let registers = (zm <= by_size(7, 15, size)) & ((zn <= 31) & (zda <= 31));
     answered(
         half_or_single(size),
@@ -194,17 +194,20 @@ fn encode_element(scalar: u32, vector: u32, a: ByElement) -> Written
 {
     let size = a.size;
     let form = a.form;
-    let rm = a.rm as u32;
-    let index = a.index as u32;
+    let rm = a.rm;
+    let index = a.index;
     let rn = a.rn;
     let rd = a.rd;
-    let fields_h = (1 << 22) + ((index >> 1) % 2 << 21) + (index % 2 << 20) + (index >> 2 << 11);
-    let fields_s = (2 << 22) + (index % 2 << 21) + (index >> 1 << 11);
+    let fields_h = (1 << 22)
+        + ((index >> 1) % 2 << 21)
+        + (index % 2 << 20)
+        + ((index >> 2) % 2 << 11);
+    let fields_s = (2 << 22) + (index % 2 << 21) + ((index >> 1) % 2 << 11);
     let word = form_base(scalar, vector, form)
         + by_size(fields_h, fields_s, size)
-        + (rm << 16)
-        + ((rn as u32) << 5)
-        + (rd as u32);
+        + (rm % 32 << 16)
+        + (rn % 32 << 5)
+        + rd % 32;
     let registers = (rm <= by_size(15, 31, size)) & ((rn <= 31) & (rd <= 31));
     answered(
         half_or_single(size),

@@ -19,19 +19,19 @@ const MOST: usize = 100000;
 
 // An operation by numbers, as the reference model has it. A field that the family does not use is 0.
 struct Fields {
-    family: u8,
-    size: u8,
-    form: u8,
-    turns: u8,
-    destination: u8,
-    first: u8,
-    second: u8,
-    index: u8,
+    family: u32,
+    size: u32,
+    form: u32,
+    turns: u32,
+    destination: u32,
+    first: u32,
+    second: u32,
+    index: u32,
 }
 
 // ---- from numbers to an operation
 
-fn size_of(n: u8) -> Size {
+fn size_of(n: u32) -> Size {
     match n {
         0 => Size::B,
         1 => Size::H,
@@ -40,7 +40,7 @@ fn size_of(n: u8) -> Size {
     }
 }
 
-fn rotation_of(turns: u8) -> Rotation {
+fn rotation_of(turns: u32) -> Rotation {
     match turns {
         0 => Rotation::R0,
         1 => Rotation::R90,
@@ -49,7 +49,7 @@ fn rotation_of(turns: u8) -> Rotation {
     }
 }
 
-fn form_of(n: u8) -> Form {
+fn form_of(n: u32) -> Form {
     match n {
         0 => Form::Scalar,
         1 => Form::Vector64,
@@ -114,7 +114,7 @@ fn operation_of(f: Fields) -> Op {
 
 // ---- from an operation to numbers
 
-fn size_number(z: Size) -> u8 {
+fn size_number(z: Size) -> u32 {
     match z {
         Size::B => 0,
         Size::H => 1,
@@ -123,7 +123,7 @@ fn size_number(z: Size) -> u8 {
     }
 }
 
-fn turns_of(rot: Rotation) -> u8 {
+fn turns_of(rot: Rotation) -> u32 {
     match rot {
         Rotation::R0 => 0,
         Rotation::R90 => 1,
@@ -132,7 +132,7 @@ fn turns_of(rot: Rotation) -> u8 {
     }
 }
 
-fn form_number(f: Form) -> u8 {
+fn form_number(f: Form) -> u32 {
     match f {
         Form::Scalar => 0,
         Form::Vector64 => 1,
@@ -140,7 +140,7 @@ fn form_number(f: Form) -> u8 {
     }
 }
 
-fn of_add(family: u8, a: Add) -> Fields {
+fn of_add(family: u32, a: Add) -> Fields {
     let size = a.size;
     let rot = a.rot;
     Fields {
@@ -155,7 +155,7 @@ fn of_add(family: u8, a: Add) -> Fields {
     }
 }
 
-fn of_mul(family: u8, a: Mul) -> Fields {
+fn of_mul(family: u32, a: Mul) -> Fields {
     let size = a.size;
     let rot = a.rot;
     Fields {
@@ -170,7 +170,7 @@ fn of_mul(family: u8, a: Mul) -> Fields {
     }
 }
 
-fn of_indexed(family: u8, a: MulIndexed) -> Fields {
+fn of_indexed(family: u32, a: MulIndexed) -> Fields {
     let size = a.size;
     let rot = a.rot;
     Fields {
@@ -185,7 +185,7 @@ fn of_indexed(family: u8, a: MulIndexed) -> Fields {
     }
 }
 
-fn of_element(family: u8, a: ByElement) -> Fields {
+fn of_element(family: u32, a: ByElement) -> Fields {
     let size = a.size;
     let form = a.form;
     Fields {
@@ -215,7 +215,7 @@ fn fields_of(op: Op) -> Fields {
 
 // ---- printing
 
-fn print_number(n: u8) {
+fn print_number(n: u32) {
     io::write_all(STDOUT_FILENO, b" ");
     io::print_decimal(STDOUT_FILENO, n as u64);
 }
@@ -250,7 +250,7 @@ fn print_decoded(word: u32) {
     }
 }
 
-fn print_answer(number: u8, word: u32) {
+fn print_answer(number: u32, word: u32) {
     print_number(number);
     print_word(word);
 }
@@ -281,14 +281,14 @@ fn print_case(c: [u8; 12]) {
         print_decoded(wide(c[4]) + (wide(c[5]) << 8) + (wide(c[6]) << 16) + (wide(c[7]) << 24));
     } else {
         print_written(Fields {
-            family: c[4],
-            size: c[5],
-            form: c[6],
-            turns: c[7],
-            destination: c[8],
-            first: c[9],
-            second: c[10],
-            index: c[11],
+            family: wide(c[4]),
+            size: wide(c[5]),
+            form: wide(c[6]),
+            turns: wide(c[7]),
+            destination: wide(c[8]),
+            first: wide(c[9]),
+            second: wide(c[10]),
+            index: wide(c[11]),
         });
     }
     io::write_all(STDOUT_FILENO, b"\n");

@@ -15,7 +15,7 @@ use isa::types::MulIndexed;
 use isa::types::Op;
 use isa::types::Size;
 
-pub fn wide(x: u8) -> usize
+pub fn wide(x: u32) -> usize
     ensures { λ r. ⌜ r ≡ x ⌝ }
 {
     x as usize

@@ -23,7 +23,7 @@ pub struct Registers {
     pub m: usize,
 }
 
-fn two(d: u8, m: u8) -> Registers
+fn two(d: u32, m: u32) -> Registers
     ensures { λ r. ⌜ (r .d ≡ d) × (r .n ≡ d) × (r .m ≡ m) ⌝ }
 {
     let first = wide(d);
@@ -34,7 +34,7 @@ fn two(d: u8, m: u8) -> Registers
     }
 }
 
-fn three(d: u8, n: u8, m: u8) -> Registers
+fn three(d: u32, n: u32, m: u32) -> Registers
     ensures { λ r. ⌜ (r .d ≡ d) × (r .n ≡ n) × (r .m ≡ m) ⌝ }
 {
     Registers {

@@ -1,5 +1,6 @@
 -- Writing by its checks. `number-exact`: each of 7, 8, 9, 10 is answered exactly when its check fails and no earlier one does, and
--- 0 exactly when none fails. `word-exact`: the word is answered exactly when every check passes. Assumes nothing.
+-- 0 exactly when none fails. `word-exact`: the word is answered exactly when every check passes. `same-answer`: a word that is
+-- right where every check passes gives the same answer. Assumes nothing.
 use Prim.Native.Nat.{ℕ}
 use mathlib.Core.Path.{_≡_, refl, sym, ap, _∙_, subst}
 use mathlib.Core.Bool.{Bool, true, false}
@@ -59,3 +60,19 @@ passed k w (done es er eg ei) e =
 pub word-exact : (op : Op) (w : ℕ) → (encodeOf op ≡ Written.Word w → Passed (checksOf op) w) × (Passed (checksOf op) w → encodeOf op ≡ Written.Word w)
 unfolding encodeOf writtenNumber
 word-exact op w = ((λ e. passed (checksOf op) w (number-exact op 0 .0 (ap writtenNumber e)) e), passes (checksOf op) w)
+
+abbrev pub withWord : Checks → ℕ → Checks
+withWord k w = record { size = k .size; rotation = k .rotation; registers = k .registers; index = k .index; word = w }
+
+pub same-answer : (k : Checks) {w : ℕ} → (Passed k (k .word) → w ≡ k .word) → answer (withWord k w) ≡ answer k
+unfolding answer
+same-answer k {w} right = by (k .size) (k .rotation) (k .registers) (k .index) refl refl refl refl
+  where
+    by : (s r g i : Bool) → k .size ≡ s → k .rotation ≡ r → k .registers ≡ g → k .index ≡ i → answer (withWord k w) ≡ answer k
+    by false r g i es er eg ei = rw es
+    by true false g i es er eg ei = rw (es, er)
+    by true true false i es er eg ei = rw (es, er, eg)
+    by true true true false es er eg ei = rw (es, er, eg, ei)
+    by true true true true es er eg ei =
+        let e = right (record { size = es; rotation = er; registers = eg; index = ei; word = refl }) in
+        rw (es, er, eg, ei, e)

@@ -3,9 +3,7 @@ use Rattle.capi.proofs.encode.indexed_at.Statement.{statement}
 use Rattle.capi.proofs.encode.indexed_at.Tie as tie
 
 returns : tie.Need-returns
-returns c =
-    let made = c .before .before .before .before in
-    rw (made .before .size-of .ensures, made .rotation-of .ensures)
+returns c = rw (c .before .size-of .ensures, c .rotation-of .ensures)
 
 pub indexed-at-spec : {M : Type 1} → statement M
 indexed-at-spec =
@@ -13,8 +11,4 @@ indexed-at-spec =
     (tie.spec
     (λ c κs. search needs)
     (λ c κs. search needs)
-    (λ c. search needs)
-    (λ c. search needs)
-    (λ c. search needs)
-    (λ c. search needs)
     returns)

@@ -3,9 +3,7 @@ use Rattle.capi.proofs.encode.mul_at.Statement.{statement}
 use Rattle.capi.proofs.encode.mul_at.Tie as tie
 
 returns : tie.Need-returns
-returns c =
-    let made = c .before .before .before in
-    rw (made .before .size-of .ensures, made .rotation-of .ensures)
+returns c = rw (c .before .size-of .ensures, c .rotation-of .ensures)
 
 pub mul-at-spec : {M : Type 1} → statement M
 mul-at-spec =
@@ -13,7 +11,4 @@ mul-at-spec =
     (tie.spec
     (λ c κs. search needs)
     (λ c κs. search needs)
-    (λ c. search needs)
-    (λ c. search needs)
-    (λ c. search needs)
     returns)

@@ -1,13 +1,8 @@
 use mathlib.Core.Path.{_≡_, sym, _∙_}
-use Rattle.capi.proofs.Named.{within-bytes, named-within, named-past}
+use Rattle.capi.proofs.Named.{named-within, named-past}
 use borrow.Author.Needs.{needs}
 use Rattle.capi.proofs.encode.named_by.Statement.{statement}
 use Rattle.capi.proofs.encode.named_by.Tie as tie
-
-family-named-requires : tie.Need-family-named-requires
-family-named-requires c κs =
-    let w = c .before in
-    within-bytes (w .before .args .n) (sym (w .within .ensures) ∙ c .if1 .taken)
 
 returns : tie.Need-returns
 returns c =
@@ -24,6 +19,6 @@ named-by-spec =
     tie.close
     (tie.spec
     (λ c κs. search needs)
-    family-named-requires
+    (λ c κs. search needs)
     returns
     returns-2)

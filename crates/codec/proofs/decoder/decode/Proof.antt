@@ -1,4 +1,4 @@
-use mathlib.Core.Path.{_≡_, sym, ap, _∙_}
+use mathlib.Core.Path.{_≡_, sym}
 use native.Mathlib.Omega.{arith}
 use Rattle.codec.proofs.Keys.{outside-top}
 use borrow.Author.Needs.{needs}
@@ -11,14 +11,11 @@ decode-product-requires c κs = search needs
 decode-add-requires : tie.Need-decode-add-requires
 decode-add-requires c κs = search needs
 
+form-of-requires : tie.Need-form-of-requires
+form-of-requires c κs = search needs
+
 decode-element-requires : tie.Need-decode-element-requires
 decode-element-requires c κs = search needs
-
-decode-element-requires-2 : tie.Need-decode-element-requires-2
-decode-element-requires-2 c κs = search needs
-
-decode-element-requires-3 : tie.Need-decode-element-requires-3
-decode-element-requires-3 c κs = search needs
 
 returns : tie.Need-returns
 returns c = search needs
@@ -30,15 +27,7 @@ returns-3 : tie.Need-returns-3
 returns-3 c = search needs
 
 returns-4 : tie.Need-returns-4
-returns-4 c = search needs
-
-returns-5 : tie.Need-returns-5
-returns-5 c = search needs
-
-returns-6 : tie.Need-returns-6
-returns-6 c =
-    let w = c .before .args .word in
-    sym (outside-top w (omega arith) (omega arith) (omega arith) (omega arith) (omega arith) (omega arith))
+returns-4 c = sym (outside-top (c .before .args .word) (omega arith) (omega arith) (omega arith) (c .match .rest .1))
 
 pub decode-spec : {M : Type 1} → statement M
 decode-spec =
@@ -46,12 +35,9 @@ decode-spec =
     (tie.spec
     decode-product-requires
     decode-add-requires
+    form-of-requires
     decode-element-requires
-    decode-element-requires-2
-    decode-element-requires-3
     returns
     returns-2
     returns-3
-    returns-4
-    returns-5
-    returns-6)
+    returns-4)

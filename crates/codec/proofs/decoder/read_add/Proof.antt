@@ -9,15 +9,8 @@ size-of-requires c κs = search needs
 add-rotation-of-requires : tie.Need-add-rotation-of-requires
 add-rotation-of-requires c κs = search needs
 
-cast-t10 : tie.Need-cast-t10
-cast-t10 c = search needs
-
-cast-t12 : tie.Need-cast-t12
-cast-t12 c = search needs
-
 returns : tie.Need-returns
 returns c = rw (c .before .size-of .ensures, c .add-rotation-of .ensures, div-one)
 
 pub read-add-spec : {M : Type 1} → statement M
-read-add-spec =
-    tie.close (tie.spec size-of-requires add-rotation-of-requires cast-t10 cast-t12 returns)
+read-add-spec = tie.close (tie.spec size-of-requires add-rotation-of-requires returns)

@@ -9,18 +9,8 @@ size-of-requires c κs = search needs
 rotation-of-requires : tie.Need-rotation-of-requires
 rotation-of-requires c κs = search needs
 
-cast-t10 : tie.Need-cast-t10
-cast-t10 c = search needs
-
-cast-t13 : tie.Need-cast-t13
-cast-t13 c = search needs
-
-cast-t15 : tie.Need-cast-t15
-cast-t15 c = search needs
-
 returns : tie.Need-returns
 returns c = rw (c .before .size-of .ensures, c .rotation-of .ensures, div-one)
 
 pub read-mul-spec : {M : Type 1} → statement M
-read-mul-spec =
-    tie.close (tie.spec size-of-requires rotation-of-requires cast-t10 cast-t13 cast-t15 returns)
+read-mul-spec = tie.close (tie.spec size-of-requires rotation-of-requires returns)

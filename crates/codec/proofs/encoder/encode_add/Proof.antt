@@ -1,12 +1,8 @@
-use Prim.Native.Nat.{ℕ}
-use mathlib.Core.Path.{_≡_, sym, ap, ap₂, _∙_}
-use mathlib.Core.List.{List, [], _∷_}
-use mathlib.Core.Bool.{Bool, true, _&&_}
-use native.Mathlib.Omega.{arith}
-use lib.Dec.{leb}
-use Rattle.isa.specs.Field.{written}
+use mathlib.Core.Path.{_≡_}
 use Rattle.isa.specs.Table.{addRow}
-use Rattle.isa.specs.Encode.{answer}
+use Rattle.isa.specs.Encode.{addChecks}
+use Rattle.isa.proofs.Checks.{same-answer}
+use Rattle.isa.proofs.Valid.{add-valid}
 use Rattle.codec.proofs.Words.{add-sum}
 use borrow.Author.Needs.{needs}
 use Rattle.codec.proofs.encoder.encode_add.Statement.{statement}
@@ -24,14 +20,8 @@ add-rotation-bits-requires c κs = search needs
 add-word-2 : tie.Need-add-word-2
 add-word-2 c = search needs
 
-cast-word : tie.Need-cast-word
-cast-word c = search needs
-
 add-word-3 : tie.Need-add-word-3
 add-word-3 c = search needs
-
-cast-word-2 : tie.Need-cast-word-2
-cast-word-2 c = search needs
 
 add-word-4 : tie.Need-add-word-4
 add-word-4 c = search needs
@@ -44,15 +34,10 @@ answered-requires c κs = search needs
 
 returns : tie.Need-returns
 returns c =
-    let s = c .before .before .before .before in
-    let a = s .args .a in
-    let n = c .before .before .before .size-bits in
-    let r = c .before .before .add-rotation-bits in
-    c .answered .ensures
-    ∙ ap₂ (λ (x : Bool) (w : ℕ). answer (record { size = true; rotation = x; registers = leb (a .zm) 31 && leb (a .zdn) 31; index = true; word = w }))
-    (c .before .add-rotation .ensures)
-    (add-sum (s .args .base) (n .result) (r .result) (a .zm) (a .zdn) (n .ensures .1) (r .ensures .1) (omega arith)
-    ∙ ap₂ (λ (x y : ℕ). written (addRow (s .args .base)) (x ∷ y ∷ a .zm ∷ a .zdn ∷ [])) (n .ensures .0) (r .ensures .0))
+    let x = c .before .before .before .before .args in
+    let row = addRow (x .base) in
+    let e = same-answer (addChecks row (x .a)) (λ p. add-sum (x .base) (x .a) (c .before .before .before .size-bits .ensures) (c .before .before .add-rotation-bits .ensures) (add-valid row (x .a) _ p)) in
+    cc
 
 pub encode-add-spec : {M : Type 1} → statement M
 encode-add-spec =
@@ -62,9 +47,7 @@ encode-add-spec =
     add-word
     add-rotation-bits-requires
     add-word-2
-    cast-word
     add-word-3
-    cast-word-2
     add-word-4
     add-rotation-requires
     answered-requires

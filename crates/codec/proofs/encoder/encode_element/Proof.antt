@@ -1,19 +1,13 @@
-use Prim.Native.Nat.{ℕ, _+_, _*_, _%_, _<_}
-use mathlib.Core.Path.{_≡_, ap, _∙_}
-use mathlib.Core.Bool.{true, _&&_}
 use native.Mathlib.Omega.{arith}
-use lib.Dec.{leb}
-use Rattle.isa.specs.Encode.{answer}
+use mathlib.Core.Path.{_≡_, _∙_}
+use Rattle.isa.specs.Table.{scalarRow, vectorRow}
+use Rattle.isa.specs.Encode.{elementChecks}
+use Rattle.isa.proofs.Checks.{same-answer}
+use Rattle.isa.proofs.Valid.{element-valid}
 use Rattle.codec.proofs.Words.{element-sum}
 use borrow.Author.Needs.{needs}
 use Rattle.codec.proofs.encoder.encode_element.Statement.{statement}
 use Rattle.codec.proofs.encoder.encode_element.Tie as tie
-
-cast-rm : tie.Need-cast-rm
-cast-rm c = search needs
-
-cast-index : tie.Need-cast-index
-cast-index c = search needs
 
 add-fields-h : tie.Need-add-fields-h
 add-fields-h c = search needs
@@ -42,14 +36,8 @@ add-word c = omega (arith, c .by-size .ensures .1 16777216 (omega arith) (omega 
 add-word-2 : tie.Need-add-word-2
 add-word-2 c = omega (arith, c .by-size .ensures .1 16777216 (omega arith) (omega arith))
 
-cast-word : tie.Need-cast-word
-cast-word c = search needs
-
 add-word-3 : tie.Need-add-word-3
 add-word-3 c = omega (arith, c .by-size .ensures .1 16777216 (omega arith) (omega arith))
-
-cast-word-2 : tie.Need-cast-word-2
-cast-word-2 c = search needs
 
 add-word-4 : tie.Need-add-word-4
 add-word-4 c = omega (arith, c .by-size .ensures .1 16777216 (omega arith) (omega arith))
@@ -69,25 +57,16 @@ answered-requires c κs = search needs
 returns : tie.Need-returns
 returns c =
     let b = c .before .before .before .before in
-    let f = b .before .form-base in
-    let s = b .before .before .before .before in
-    let a = s .args .a in
-    let g = b .before .before .struct-known2 .given in
-    let i-fits : a .index < 256 = omega (arith, g) in
-    let rm-fits : a .rm < 256 = omega (arith, g) in
-    let rn-fits : a .rn < 256 = omega (arith, g) in
-    let word =
-    ap (λ (x : ℕ). f .result + x + a .rm * 65536 % 4294967296 + a .rn * 32 % 4294967296 + a .rd) (b .by-size .ensures .0)
-    ∙ element-sum (a .size) (a .form) (s .args .scalar) (s .args .vector) (f .result) (a .index) (a .rm) (a .rn) (a .rd) i-fits rm-fits rn-fits (f .ensures .0) in
-    c .answered .ensures
-    ∙ (λ k. answer (record { size = c .before .before .half-or-single .ensures k; rotation = true; registers = leb (a .rm) (c .before .before .before .by-size2 .ensures .0 k) && (leb (a .rn) 31 && leb (a .rd) 31); index = leb (a .index) (c .before .by-size3 .ensures .0 k); word = word k }))
+    let x = b .before .before .args in
+    let s = scalarRow (x .scalar) in
+    let v = vectorRow (x .vector) in
+    let e = same-answer (elementChecks s v (x .a)) (λ p. element-sum (x .scalar) (x .vector) (x .a) (b .before .form-base .ensures .0) (b .by-size .ensures .0) (element-valid s v (x .a) _ p)) in
+    rw (c .before .before .half-or-single .ensures, c .before .before .before .by-size2 .ensures .0, c .before .by-size3 .ensures .0) at (c .answered .ensures) ∙ e
 
 pub encode-element-spec : {M : Type 1} → statement M
 encode-element-spec =
     tie.close
     (tie.spec
-    cast-rm
-    cast-index
     add-fields-h
     add-fields-h-2
     add-fields-h-3
@@ -97,9 +76,7 @@ encode-element-spec =
     by-size-requires
     add-word
     add-word-2
-    cast-word
     add-word-3
-    cast-word-2
     add-word-4
     by-size-requires-2
     half-or-single-requires
