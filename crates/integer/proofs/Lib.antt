@@ -2,6 +2,7 @@ pub mod Difference
 pub mod Round
 pub mod Word
 pub mod Wrap
+pub mod Toward
 pub mod Widen
 pub mod Bits
 pub mod Narrow

@@ -3,20 +3,22 @@
 -- Assumes nothing.
 use mathlib.Core.Path.{_≡_, refl, sym, ap, ap₂, _∙_}
 use mathlib.Core.Bool.{Bool}
-use Prim.Native.Nat.{ℕ, _+_, _*_, _%_, _^_, _<_}
+use Prim.Native.Nat.{ℕ, _+_, _-_, _*_, _%_, _^_, _≤_, _<_}
 use native.Mathlib.Nat.{lt-of-le-of-lt, mul-le-mul-left}
 use lib.Pow.{pow-pos}
 use native.Mathlib.Omega.{arith}
 use lib.Dec.{lit<}
-use lib.IntN.{ℤ, pos, _+ℤ_, _*ℤ_}
-use lib.Signed.{shrZ, mag, mag-shr}
+use lib.IntN.{ℤ, pos, natAbs, _+ℤ_, _*ℤ_}
+use lib.Signed.{shrZ, mag, mag-shr, natAbs-le}
 use mir.Syntax.{Width, w8, w16, w32, w64}
 use mir.Val.{SFits, toZ, ofZ, bits, hbits}
 use mir.Facts.{toZ-ofZ}
 use Rattle.integer.specs.Number.{rounded, signedBy, signed, pattern, wrap}
-use Rattle.integer.specs.Lane.{SumIn}
+use Rattle.integer.specs.Lane.{SumIn, Toward}
 use Rattle.integer.proofs.Word.{kept, pattern-narrow}
 use Rattle.integer.proofs.Round.{round-apart, sum-mag, product-mag, signed-mag}
+use Rattle.integer.proofs.Bits.{half}
+use Rattle.integer.proofs.Toward.{toward, toward-addend}
 
 -- q is a quarter of 2^N, where n has N bits, and w has room for a product, an addend and q
 pub record Wide (n w : Width) (q : ℕ) : Type 0 where
@@ -44,6 +46,9 @@ module _ {n w : Width} {q : ℕ} (r : Wide n w q) where
 
   pub read-cast : {z : ℤ} → SFits n z → toZ w (ofZ w (toZ n (ofZ n z))) ≡ z
   read-cast f = simp (toZ-ofZ f, toZ-ofZ (widened f))
+
+  abs-lane : {z : ℤ} → SFits n z → natAbs z ≤ 2 ^ (bits n - 1)
+  abs-lane {z} f = rw (half n) (natAbs-le z (f .sfits))
 
   -- the product
   fits-exact : {a b : ℤ} → SFits n a → SFits n b → SFits w (a *ℤ b)
@@ -103,6 +108,10 @@ module _ {n w : Width} {q : ℕ} (r : Wide n w q) where
         simp (read-cast fc, toZ-ofZ fits-shifted, toZ-ofZ fits-total)
         (ap (λ (z : ℤ). c +ℤ shrZ z (2 ^ hbits n)) e ∙ sym (round-apart (hbits n) q (r .even) c (signedBy minus (a *ℤ b))))
 
+    -- what is added to c picks the end of the clamp
+    pub toward-rounded : Toward (bits n) (toZ w (ofZ w (toZ w (ofZ w (toZ n (ofZ n c))) +ℤ toZ w (ofZ w (shrZ v (2 ^ hbits n)))))) (toZ w (ofZ w (shrZ v (2 ^ hbits n))))
+    toward-rounded = simp (read-cast fc, toZ-ofZ fits-shifted, toZ-ofZ fits-total) (toward (bits n) c (shrZ v (2 ^ hbits n)) (abs-lane fc))
+
     pub read-rounded : toZ w (ofZ w (toZ w (ofZ w (toZ n (ofZ n c))) +ℤ toZ w (ofZ w (shrZ v (2 ^ hbits n))))) ≡ rounded (bits n) c (signedBy minus (a *ℤ b))
     read-rounded = halved ∙ ap (λ (N : ℕ). rounded N c (signedBy minus (a *ℤ b))) (sym (r .one-more))
 
@@ -124,6 +133,10 @@ module _ {n w : Width} {q : ℕ} (r : Wide n w q) where
   -- the sum of two lanes that were widened, and of a lane and a product
   pub lanes-sum : {c b s : ℤ} (minus : Bool) → SFits n c → SFits n b → s ≡ toZ w (ofZ w (toZ n (ofZ n c))) +ℤ signedBy minus (toZ w (ofZ w (toZ n (ofZ n b)))) → s ≡ c +ℤ signedBy minus b
   lanes-sum minus f g e = e ∙ simp (read-cast f, read-cast g)
+
+  -- the addend picks the end of the clamp
+  pub toward-lanes : {c b s : ℤ} (minus : Bool) → SFits n c → SFits n b → mag s < 2 ^ hbits w → s ≡ c +ℤ signedBy minus b → Toward (bits n) (toZ w (ofZ w s)) (toZ w (ofZ w (toZ n (ofZ n c))))
+  toward-lanes {c} {b} minus f g h e = rw (kept w _ h ∙ e, read-cast f) (toward-addend (bits n) minus c b (abs-lane g))
 
   -- the rounded sum of lanes that fit
   pub rounded-sum : {c a b s : ℤ} (minus : Bool) → SFits n c → SFits n a → SFits n b → s ≡ rounded (bits n) (toZ n (ofZ n c)) (signedBy minus (toZ n (ofZ n a) *ℤ toZ n (ofZ n b))) → s ≡ rounded (bits n) c (signedBy minus (a *ℤ b))

@@ -1,9 +1,11 @@
 -- What a lane of N bits becomes of its old number and of what is added, and what the code of a lane takes and gives.
 -- Assumes nothing.
+use mathlib.Core.Path.{_≡_}
+use mathlib.Core.Bool.{true, false}
 use Prim.Native.Nat.{ℕ, _+_, _*_, _^_, _<_}
-use lib.IntN.{ℤ, _+ℤ_}
-use lib.Signed.{mag}
-use Rattle.integer.specs.Number.{clamp, rounded, wrap}
+use lib.IntN.{ℤ, pos, _+ℤ_}
+use lib.Signed.{ltZ, mag}
+use Rattle.integer.specs.Number.{clamp, rounded, wrap, lowest, highest}
 
 -- The rounded sum, clamped once.
 unfoldable pub saturated : ℕ → ℤ → ℤ → ℤ
@@ -21,3 +23,8 @@ clamped N c t = clamp N (c +ℤ t)
 pub record SumIn (s : ℕ) (x y : ℤ) : Type 0 where
   pub lane-size : mag x < 2 ^ s
   pub small : mag y < 2 ^ s * 2 ^ s + 1
+
+-- What a clamp of x to N bits takes in the code, where it picks the end by the sign of t: past the highest t is not negative, and below the lowest it is.
+pub record Toward (N : ℕ) (x t : ℤ) : Type 0 where
+  pub above : ltZ (highest N) x ≡ true → ltZ t (pos 0) ≡ false
+  pub below : ltZ x (lowest N) ≡ true → ltZ t (pos 0) ≡ true

@@ -96,13 +96,11 @@ elements f z index minus small {c} {n} {m} {r} {x} {y} {ml} {s} {t} {b} {count} 
 
 -- ---- the loops
 
--- lane e of the sums: s is the rounded sum and v what is left of it, past the form's lanes 0
-pub sum-lane : (w k : Width) (N : ℕ) (minus t : Bool) {v s : ℤ} (x y : ℤ) (b : ℕ) → mag v < 2 ^ hbits k → mag s < 2 ^ hbits k → mag x < 2 ^ hbits w → mag y < 2 ^ hbits w →
-    v ≡ cond t (toZ k (ofZ k s)) (pos 0) → s ≡ rounded N (toZ w (ofZ w x)) (signedBy minus (toZ w (ofZ w y) *ℤ toZ w b)) →
-    toZ k (ofZ k v) ≡ cond t (rounded N x (signedBy minus (y *ℤ toZ w b))) (pos 0)
-sum-lane w k N minus t {v} {s} x y b hv hs hx hy p q =
-    kept k v hv ∙ p
-    ∙ ap (λ (z : ℤ). cond t z (pos 0)) (kept k s hs ∙ q ∙ ap₂ (λ a d. rounded N a (signedBy minus (d *ℤ toZ w b))) (kept w x hx) (kept w y hy))
+-- lane e of the sums, by the element b
+pub sum-lane : (w k : Width) (N : ℕ) (minus : Bool) {s : ℤ} (x y : ℤ) (b : ℕ) → mag s < 2 ^ hbits k → mag x < 2 ^ hbits w → mag y < 2 ^ hbits w →
+    s ≡ rounded N (toZ w (ofZ w x)) (signedBy minus (toZ w (ofZ w y) *ℤ toZ w b)) → toZ k (ofZ k s) ≡ rounded N x (signedBy minus (y *ℤ toZ w b))
+sum-lane w k N minus {s} x y b hs hx hy p =
+    kept k s hs ∙ p ∙ ap₂ (λ a d. rounded N a (signedBy minus (d *ℤ toZ w b))) (kept w x hx) (kept w y hy)
 
 -- a loop that tells whether some lane of `size` passes a test
 pub record Told (size e : ℕ) (test : ℕ → Bool) (any : Bool) : Type 0 where

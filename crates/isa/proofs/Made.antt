@@ -1,11 +1,14 @@
 -- A loop that makes a list from the front, one store after the other: after n stores the first n elements are those of f.
 -- Assumes nothing.
-use mathlib.Core.Path.{_≡_, sym, ap, _∙_, subst}
+use mathlib.Core.Path.{_≡_, refl, sym, ap, _∙_, subst}
+use mathlib.Core.Bool.{Bool, true, false, cond}
 use mathlib.Core.List.{List}
-use Prim.Native.Nat.{ℕ, _+_, _≤_, _<_}
+use Prim.Native.Nat.{ℕ, zero, suc, _+_, _≤_, _<_}
 use native.Mathlib.Omega.{arith}
 use native.Mathlib.Decide.{ℕ-discrete}
-use lib.ListN.{getD, set, length, length-set}
+use borrow.Author.Tests.{ltb-true, ltb-false}
+use lib.Dec.{ltb}
+use lib.ListN.{getD, set, length, length-set, replicate, length-replicate}
 use lib.Seq.{getD-set-same, getD-set-other}
 
 pub record Made {A : Type 0} (d : A) (size n : ℕ) (f : ℕ → A) (r : List A) : Type 0 where
@@ -36,3 +39,33 @@ module _ {A : Type 0} {d : A} {size : ℕ} {f : ℕ → A} where
   -- the same number of stores, written otherwise
   pub made-as : {n : ℕ} (j : ℕ) {r : List A} → Made d size n f r → n ≡ j → Made d size j f r
   made-as {n} j {r} m e = subst (λ (i : ℕ). Made d size i f r) e m
+
+-- the same for the first `count` elements only: the others stay d
+pub record Begun {A : Type 0} (d : A) (size count n : ℕ) (f : ℕ → A) (r : List A) : Type 0 where
+  pub made : Made d size n f r
+  pub below : n ≤ count
+  pub rest : (k : ℕ) → n ≤ k → getD r k d ≡ d
+
+all-same : {A : Type 0} (d : A) (n k : ℕ) → getD (replicate n d) k d ≡ d
+all-same d zero k = refl
+all-same d (suc n) zero = refl
+all-same d (suc n) (suc k) = all-same d n k
+
+module _ {A : Type 0} {d : A} {count : ℕ} {f : ℕ → A} where
+  pub begun-none : (size : ℕ) → Begun d size count 0 f (replicate size d)
+  begun-none size = record { made = made-none (length-replicate size d); below = omega arith; rest = (λ k h. all-same d size k) }
+
+  module _ {size n : ℕ} {r : List A} (b : Begun d size count n f r) where
+    pub begun-more : n < count → count ≤ size → (v : A) → v ≡ f n → Begun d size count (n + 1) f (set r n v)
+    begun-more h l v e =
+        record { made = made-more (b .made) (omega arith) v e; below = omega arith; rest = (λ k p. getD-set-other r n k v d (λ q. other k p q) ∙ b .rest k (omega arith)) }
+      where
+        other : (k : ℕ) → n + 1 ≤ k → k ≡ n → ⊥
+        other k p q = omega arith
+
+    pub begun-all : count ≤ n → (k : ℕ) → getD r k d ≡ cond (ltb k count) (f k) d
+    begun-all l k = by-test (ltb k count) refl
+      where
+        by-test : (t : Bool) → ltb k count ≡ t → getD r k d ≡ cond t (f k) d
+        by-test true p = b .made .at k (omega (arith, ltb-true k count p))
+        by-test false p = b .rest k (omega (arith, b .below, ltb-false k count p))

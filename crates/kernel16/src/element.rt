@@ -1,7 +1,7 @@
-// The families by element. The index is taken modulo the 8 elements of a segment.
-ghost use mathlib.Core.Path.{_≡_};
+// The families by element. Each form has a function, so that its number of lanes is a constant in the loops.
+// The index is taken modulo the 8 elements of a segment.
 ghost use Prim.Native.Nat.{_%_};
-ghost use Rattle.isa.specs.Meaning.{laneCount, adds, subtracts};
+ghost use Rattle.isa.specs.Meaning.{adds, subtracts};
 ghost use Rattle.isa.specs.Segment.{Elements};
 use crate::segment::any_outside;
 use crate::segment::bytes;
@@ -12,30 +12,36 @@ use common::element::Saturated;
 use isa::types::Form;
 use isa::types::Size;
 
-fn lane_count(form: Form) -> usize
-    ensures { λ r. ⌜ r ≡ laneCount form Size.H ⌝ }
+// The first lane, plus or minus the product with the element at the index.
+pub fn scalar(c: [u8; 16], n: [u8; 16], m: [u8; 16], index: usize, minus: bool) -> Saturated
+    ensures { λ r. ⌜ Elements Form.Scalar Size.H (index % 8) minus (r .bytes) (r .clamped) c n m ⌝ }
 {
-    match form {
-        Form::Scalar => 1,
-        Form::Vector64 => 4,
-        Form::Vector128 => 8,
+    let z = lanes(m);
+    let s = sums(lanes(c), lanes(n), z[index % 8], 1, minus);
+    Saturated {
+        bytes: bytes(narrowed(s)),
+        clamped: any_outside(s),
     }
 }
 
-fn by_element(
-    c: [u8; 16],
-    n: [u8; 16],
-    m: [u8; 16],
-    index: usize,
-    form: Form,
-    minus: bool,
-) -> Saturated
-    ensures { λ r. ⌜ Elements form Size.H (index % 8) minus (r .bytes) (r .clamped) c n m ⌝ }
+// The lanes of the first 8 bytes, plus or minus the product with the element at the index.
+pub fn vector64(c: [u8; 16], n: [u8; 16], m: [u8; 16], index: usize, minus: bool) -> Saturated
+    ensures { λ r. ⌜ Elements Form.Vector64 Size.H (index % 8) minus (r .bytes) (r .clamped) c n m ⌝ }
 {
-    let x = lanes(c);
-    let y = lanes(n);
     let z = lanes(m);
-    let s = sums(x, y, z[index % 8], lane_count(form), minus);
+    let s = sums(lanes(c), lanes(n), z[index % 8], 4, minus);
+    Saturated {
+        bytes: bytes(narrowed(s)),
+        clamped: any_outside(s),
+    }
+}
+
+// Every lane, plus or minus the product with the element at the index.
+pub fn vector128(c: [u8; 16], n: [u8; 16], m: [u8; 16], index: usize, minus: bool) -> Saturated
+    ensures { λ r. ⌜ Elements Form.Vector128 Size.H (index % 8) minus (r .bytes) (r .clamped) c n m ⌝ }
+{
+    let z = lanes(m);
+    let s = sums(lanes(c), lanes(n), z[index % 8], 8, minus);
     Saturated {
         bytes: bytes(narrowed(s)),
         clamped: any_outside(s),
@@ -46,12 +52,20 @@ fn by_element(
 pub fn sqrdmlah(c: [u8; 16], n: [u8; 16], m: [u8; 16], index: usize, form: Form) -> Saturated
     ensures { λ r. ⌜ Elements form Size.H (index % 8) adds (r .bytes) (r .clamped) c n m ⌝ }
 {
-    by_element(c, n, m, index, form, false)
+    match form {
+        Form::Scalar => scalar(c, n, m, index, false),
+        Form::Vector64 => vector64(c, n, m, index, false),
+        Form::Vector128 => vector128(c, n, m, index, false),
+    }
 }
 
 // SQRDMLSH by element on the first 16 bytes.
 pub fn sqrdmlsh(c: [u8; 16], n: [u8; 16], m: [u8; 16], index: usize, form: Form) -> Saturated
     ensures { λ r. ⌜ Elements form Size.H (index % 8) subtracts (r .bytes) (r .clamped) c n m ⌝ }
 {
-    by_element(c, n, m, index, form, true)
+    match form {
+        Form::Scalar => scalar(c, n, m, index, true),
+        Form::Vector64 => vector64(c, n, m, index, true),
+        Form::Vector128 => vector128(c, n, m, index, true),
+    }
 }

@@ -1,6 +1,11 @@
-// The families by vectors.
+// The families by vectors. Each is there for the rotations by 0 and 180 degrees, `straight`, and for those by 90 and 270, `crossed`:
+// so the rotation is chosen once, outside the loops over lanes and over registers, and the compiler sees a constant in them.
+// They are public because the crates of loops over registers call them, having looked at the rotation. The third takes any rotation.
+ghost use mathlib.Core.Path.{_≡_};
+ghost use mathlib.Core.Bool.{true, false};
 ghost use Rattle.isa.specs.Meaning.{own, caddOf, sqcaddOf, cmlaOf, sqrdcmlahOf};
 ghost use Rattle.isa.specs.Segment.{Segment};
+ghost use Rattle.isa.specs.Stage.{crossed};
 use crate::segment::adds;
 use crate::segment::bytes;
 use crate::segment::doubled;
@@ -15,42 +20,130 @@ use common::rotation::minus_real;
 use isa::types::Rotation;
 use isa::types::Size;
 
-// CADD on one segment.
-pub fn cadd(c: [u8; 16], m: [u8; 16], rot: Rotation) -> [u8; 16]
+// CADD on one segment, by 0 or 180 degrees.
+pub fn cadd_straight(c: [u8; 16], m: [u8; 16], rot: Rotation) -> [u8; 16]
+    requires { ⌜ crossed rot ≡ false ⌝ }
     ensures { λ r. ⌜ Segment Size.H own (caddOf rot) r c c m ⌝ }
 {
     let x = lanes(c);
-    let z = turned(lanes(m), crosses(rot));
+    let z = turned(lanes(m), false);
     bytes(adds(x, z, minus_real(rot), minus_imaginary(rot)))
 }
 
-// SQCADD on one segment.
-pub fn sqcadd(c: [u8; 16], m: [u8; 16], rot: Rotation) -> [u8; 16]
+// CADD on one segment, by 90 or 270 degrees.
+pub fn cadd_crossed(c: [u8; 16], m: [u8; 16], rot: Rotation) -> [u8; 16]
+    requires { ⌜ crossed rot ≡ true ⌝ }
+    ensures { λ r. ⌜ Segment Size.H own (caddOf rot) r c c m ⌝ }
+{
+    let x = lanes(c);
+    let z = turned(lanes(m), true);
+    bytes(adds(x, z, minus_real(rot), minus_imaginary(rot)))
+}
+
+// CADD on one segment, by any rotation.
+pub fn cadd(c: [u8; 16], m: [u8; 16], rot: Rotation) -> [u8; 16]
+    ensures { λ r. ⌜ Segment Size.H own (caddOf rot) r c c m ⌝ }
+{
+    if crosses(rot) {
+        cadd_crossed(c, m, rot)
+    } else {
+        cadd_straight(c, m, rot)
+    }
+}
+
+// SQCADD on one segment, by 0 or 180 degrees.
+pub fn sqcadd_straight(c: [u8; 16], m: [u8; 16], rot: Rotation) -> [u8; 16]
+    requires { ⌜ crossed rot ≡ false ⌝ }
     ensures { λ r. ⌜ Segment Size.H own (sqcaddOf 16 rot) r c c m ⌝ }
 {
     let x = lanes(c);
-    let z = turned(lanes(m), crosses(rot));
+    let z = turned(lanes(m), false);
     bytes(sats(x, z, minus_real(rot), minus_imaginary(rot)))
 }
 
-// CMLA on one segment.
-pub fn cmla(c: [u8; 16], n: [u8; 16], m: [u8; 16], rot: Rotation) -> [u8; 16]
+// SQCADD on one segment, by 90 or 270 degrees.
+pub fn sqcadd_crossed(c: [u8; 16], m: [u8; 16], rot: Rotation) -> [u8; 16]
+    requires { ⌜ crossed rot ≡ true ⌝ }
+    ensures { λ r. ⌜ Segment Size.H own (sqcaddOf 16 rot) r c c m ⌝ }
+{
+    let x = lanes(c);
+    let z = turned(lanes(m), true);
+    bytes(sats(x, z, minus_real(rot), minus_imaginary(rot)))
+}
+
+// SQCADD on one segment, by any rotation.
+pub fn sqcadd(c: [u8; 16], m: [u8; 16], rot: Rotation) -> [u8; 16]
+    ensures { λ r. ⌜ Segment Size.H own (sqcaddOf 16 rot) r c c m ⌝ }
+{
+    if crosses(rot) {
+        sqcadd_crossed(c, m, rot)
+    } else {
+        sqcadd_straight(c, m, rot)
+    }
+}
+
+// CMLA on one segment, by 0 or 180 degrees.
+pub fn cmla_straight(c: [u8; 16], n: [u8; 16], m: [u8; 16], rot: Rotation) -> [u8; 16]
+    requires { ⌜ crossed rot ≡ false ⌝ }
     ensures { λ r. ⌜ Segment Size.H own (cmlaOf rot) r c n m ⌝ }
 {
-    let odd = crosses(rot);
     let x = lanes(c);
-    let y = doubled(lanes(n), odd);
-    let z = turned(lanes(m), odd);
+    let y = doubled(lanes(n), false);
+    let z = turned(lanes(m), false);
     bytes(mlas(x, y, z, minus_real(rot), minus_imaginary(rot)))
 }
 
-// SQRDCMLAH on one segment.
+// CMLA on one segment, by 90 or 270 degrees.
+pub fn cmla_crossed(c: [u8; 16], n: [u8; 16], m: [u8; 16], rot: Rotation) -> [u8; 16]
+    requires { ⌜ crossed rot ≡ true ⌝ }
+    ensures { λ r. ⌜ Segment Size.H own (cmlaOf rot) r c n m ⌝ }
+{
+    let x = lanes(c);
+    let y = doubled(lanes(n), true);
+    let z = turned(lanes(m), true);
+    bytes(mlas(x, y, z, minus_real(rot), minus_imaginary(rot)))
+}
+
+// CMLA on one segment, by any rotation.
+pub fn cmla(c: [u8; 16], n: [u8; 16], m: [u8; 16], rot: Rotation) -> [u8; 16]
+    ensures { λ r. ⌜ Segment Size.H own (cmlaOf rot) r c n m ⌝ }
+{
+    if crosses(rot) {
+        cmla_crossed(c, n, m, rot)
+    } else {
+        cmla_straight(c, n, m, rot)
+    }
+}
+
+// SQRDCMLAH on one segment, by 0 or 180 degrees.
+pub fn sqrdcmlah_straight(c: [u8; 16], n: [u8; 16], m: [u8; 16], rot: Rotation) -> [u8; 16]
+    requires { ⌜ crossed rot ≡ false ⌝ }
+    ensures { λ r. ⌜ Segment Size.H own (sqrdcmlahOf 16 rot) r c n m ⌝ }
+{
+    let x = lanes(c);
+    let y = doubled(lanes(n), false);
+    let z = turned(lanes(m), false);
+    bytes(rounds(x, y, z, minus_real(rot), minus_imaginary(rot)))
+}
+
+// SQRDCMLAH on one segment, by 90 or 270 degrees.
+pub fn sqrdcmlah_crossed(c: [u8; 16], n: [u8; 16], m: [u8; 16], rot: Rotation) -> [u8; 16]
+    requires { ⌜ crossed rot ≡ true ⌝ }
+    ensures { λ r. ⌜ Segment Size.H own (sqrdcmlahOf 16 rot) r c n m ⌝ }
+{
+    let x = lanes(c);
+    let y = doubled(lanes(n), true);
+    let z = turned(lanes(m), true);
+    bytes(rounds(x, y, z, minus_real(rot), minus_imaginary(rot)))
+}
+
+// SQRDCMLAH on one segment, by any rotation.
 pub fn sqrdcmlah(c: [u8; 16], n: [u8; 16], m: [u8; 16], rot: Rotation) -> [u8; 16]
     ensures { λ r. ⌜ Segment Size.H own (sqrdcmlahOf 16 rot) r c n m ⌝ }
 {
-    let odd = crosses(rot);
-    let x = lanes(c);
-    let y = doubled(lanes(n), odd);
-    let z = turned(lanes(m), odd);
-    bytes(rounds(x, y, z, minus_real(rot), minus_imaginary(rot)))
+    if crosses(rot) {
+        sqrdcmlah_crossed(c, n, m, rot)
+    } else {
+        sqrdcmlah_straight(c, n, m, rot)
+    }
 }

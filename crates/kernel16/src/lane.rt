@@ -1,7 +1,6 @@
 // One lane of 16 bits, worked out exactly in 32.
 ghost use mathlib.Core.Path.{_≡_};
-ghost use mathlib.Core.Bool.{cond};
-ghost use lib.IntN.{pos, _+ℤ_, _*ℤ_};
+ghost use lib.IntN.{_+ℤ_, _*ℤ_};
 ghost use Rattle.integer.specs.Number.{rounded, clamp, clamps, wrap, signedBy};
 ghost use Rattle.integer.specs.Lane.{saturated, wrapped, clamped, SumIn};
 use crate::product::product;
@@ -26,13 +25,6 @@ pub fn outside(x: i32) -> bool
     ensures { λ r. ⌜ r ≡ clamps 16 x ⌝ }
 {
     if x < -32768 { true } else { 32767 < x }
-}
-
-// x, or 0: chosen after x is worked out, so that the loops over lanes have no branch.
-pub fn masked(on: bool, x: i32) -> i32
-    ensures { λ r. ⌜ r ≡ cond on x (pos 0) ⌝ }
-{
-    if on { x } else { 0 }
 }
 
 // x modulo 2^16.

@@ -1,13 +1,12 @@
 // The stages of a kernel: bytes to lanes, each lane's sources, one loop over the lanes, lanes to bytes.
 ghost use mathlib.Core.Path.{_≡_};
-ghost use Prim.Native.Nat.{_%_};
+ghost use Prim.Native.Nat.{_%_, _≤_};
 ghost use Rattle.integer.specs.Number.{clamps};
 ghost use Rattle.integer.specs.Lane.{saturated, wrapped, clamped};
 ghost use Rattle.isa.specs.Meaning.{anyBelow};
 ghost use Rattle.isa.specs.Segment.{bytesOf};
 ghost use Rattle.isa.specs.Stage.{LanesOf, Taken, Worked, Added, Stored, firstPlace, secondPlace, indexPlace, Summed, Clamped, lane};
 use crate::lane::add;
-use crate::lane::masked;
 use crate::lane::mla;
 use crate::lane::narrow;
 use crate::lane::outside;
@@ -123,11 +122,12 @@ pub fn sats(x: [i16; 8], z: [i16; 8], real: bool, imaginary: bool) -> [i16; 8]
 
 // The first `count` lanes by element b, rounded and not yet clamped; the others are 0.
 pub fn sums(x: [i16; 8], y: [i16; 8], b: i16, count: usize, minus: bool) -> [i32; 8]
+    requires { ⌜ count ≤ 8 ⌝ }
     ensures { λ r. ⌜ Summed Size.H count minus r x y b ⌝ }
 {
     let mut r = [0i32; 8];
-    for e in 0..8 {
-        r[e] = masked(e < count, rounding(x[e], y[e], b, minus));
+    for e in 0..count {
+        r[e] = rounding(x[e], y[e], b, minus);
     }
     r
 }

@@ -1,9 +1,8 @@
 // One lane of 32 bits, worked out exactly in 64.
 ghost use mathlib.Core.Path.{_≡_};
-ghost use mathlib.Core.Bool.{cond};
-ghost use lib.IntN.{pos, _+ℤ_, _*ℤ_};
+ghost use lib.IntN.{_+ℤ_, _*ℤ_};
 ghost use Rattle.integer.specs.Number.{rounded, clamp, clamps, wrap, signedBy};
-ghost use Rattle.integer.specs.Lane.{saturated, wrapped, clamped, SumIn};
+ghost use Rattle.integer.specs.Lane.{saturated, wrapped, clamped, SumIn, Toward};
 use crate::product::product;
 use common::bits32::of_bits;
 use common::bits64::to_bits;
@@ -32,11 +31,14 @@ pub fn outside(x: i64) -> bool
     }
 }
 
-// x, or 0: chosen after x is worked out, so that the loops over lanes have no branch.
-pub fn masked(on: bool, x: i64) -> i64
-    ensures { λ r. ⌜ r ≡ cond on x (pos 0) ⌝ }
+// x brought into 32 bits, to the end that the sign of `toward` tells. Callers pass a number that they work out anyway,
+// and the compiler makes no branch of this clamp, which data would mispredict.
+fn ended(x: i64, toward: i64) -> i32
+    requires { ⌜ Toward 32 x toward ⌝ }
+    ensures { λ r. ⌜ r ≡ clamp 32 x ⌝ }
 {
-    if on { x } else { 0 }
+    let end = if toward < 0 { -2147483648 } else { 2147483647 };
+    if outside(x) { end } else { x as i32 }
 }
 
 // x modulo 2^32.
@@ -66,7 +68,8 @@ pub fn rounding(c: i32, a: i32, b: i32, minus: bool) -> i64
 pub fn round(c: i32, a: i32, b: i32, minus: bool) -> i32
     ensures { λ r. ⌜ r ≡ saturated 32 c (signedBy minus (a *ℤ b)) ⌝ }
 {
-    narrow(rounding(c, a, b, minus))
+    let t = plus_minus(1073741824, product(a, b), minus) >> 31;
+    ended((c as i64) + t, t)
 }
 
 // c plus or minus the product of a and b, modulo 2^32.
@@ -87,5 +90,5 @@ pub fn add(c: i32, b: i32, minus: bool) -> i32
 pub fn sat(c: i32, b: i32, minus: bool) -> i32
     ensures { λ r. ⌜ r ≡ clamped 32 c (signedBy minus b) ⌝ }
 {
-    narrow(plus_minus(c as i64, b as i64, minus))
+    ended(plus_minus(c as i64, b as i64, minus), c as i64)
 }

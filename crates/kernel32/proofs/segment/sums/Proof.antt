@@ -1,31 +1,28 @@
--- `kernel32::segment::sums` meets its contract: after e turns the first e lanes are summed.
+-- `kernel32::segment::sums` meets its contract: after e turns the first e lanes are summed, and the others are 0.
 -- Assumes nothing.
-use mathlib.Core.Path.{refl}
-use mathlib.Core.Bool.{cond}
 use Prim.Native.Nat.{_-_}
 use native.Mathlib.Omega.{arith}
 use borrow.Author.Needs.{needs}
-use lib.Dec.{ltb}
 use lib.IntN.{pos, _*ℤ_}
 use mir.Syntax.{w32, w64}
 use mir.Facts.{toZ-ofZ}
 use Rattle.integer.specs.Number.{rounded, signedBy}
-use Rattle.isa.specs.Register.{bits, bytes, pairs}
+use Rattle.isa.specs.Register.{bits, bytes}
 use mir.Val.{toZ, ofZ}
 use Rattle.isa.specs.Stage.{lane}
-use Rattle.isa.proofs.Made.{Made, made-none, made-more, made-all}
+use Rattle.isa.proofs.Made.{Begun, begun-none, begun-more, begun-all}
 use Rattle.isa.proofs.Element.{sum-lane}
 use Rattle.kernel32.proofs.segment.sums.Statement.{statement}
 use Rattle.kernel32.proofs.segment.sums.Tie as tie
 
 abbrev Inv-loop : tie.InvT-loop
-Inv-loop b count minus x y r₀ e₀ r e = Made (pos 0) 4 e (λ k. cond (ltb k count) (rounded 32 (lane x k) (signedBy minus (lane y k *ℤ toZ w32 b))) (pos 0)) r
+Inv-loop b count minus x y r₀ e₀ r e = Begun (pos 0) 4 count e (λ k. rounded 32 (lane x k) (signedBy minus (lane y k *ℤ toZ w32 b))) r
 
 abbrev μ-loop : tie.MeasureT-loop
 μ-loop b count minus x y r₀ e₀ r e = 4 - e
 
 loop-holds : tie.Need-loop-holds Inv-loop μ-loop
-loop-holds c = made-none refl
+loop-holds c = begun-none 4
 
 mul-rounding : tie.Need-mul-rounding Inv-loop μ-loop
 mul-rounding c = search needs
@@ -42,9 +39,6 @@ array-copy-out-rounding-2 c = search needs
 rounding-requires : tie.Need-rounding-requires Inv-loop μ-loop
 rounding-requires c κs = search needs
 
-masked-requires : tie.Need-masked-requires Inv-loop μ-loop
-masked-requires c κs = search needs
-
 mul-r : tie.Need-mul-r Inv-loop μ-loop
 mul-r c = search needs
 
@@ -59,17 +53,18 @@ loop-less c = search needs
 
 loop-again : tie.Need-loop-again Inv-loop μ-loop
 loop-again c =
-    let r = c .before in
-    let y = r .before in
+    let y = c .before in
     let x = y .before in
     let l = x .before .before .loop in
     let a = x .before .before .before .args in
-    made-more (l .inv) (omega arith) _
-    (sum-lane w32 w64 32 (a .minus) (ltb (l .e) (a .count)) (lane (a .t1) (l .e)) (lane (a .t2) (l .e)) (ofZ w32 (a .b)) (c .masked .ok) (r .rounding .ok) (x .rounding-arg .given) (y .rounding-arg2 .given) (c .masked .ensures) (r .rounding .ensures))
+    begun-more (l .inv) (omega arith) (omega arith) _
+    (sum-lane w32 w64 32 (a .minus) (lane (a .t1) (l .e)) (lane (a .t2) (l .e)) (ofZ w32 (a .b)) (c .rounding .ok) (x .rounding-arg .given) (y .rounding-arg2 .given) (c .rounding .ensures))
 
 returns : tie.Need-returns Inv-loop μ-loop
-unfolding pairs bits bytes
-returns c = let b = toZ-ofZ (c .before .before .fits .b) in record { at = simp b at (made-all (c .before .loop .inv) (omega arith)) }
+unfolding bits bytes
+returns c =
+    let b = toZ-ofZ (c .before .before .fits .b) in
+    record { at = (λ k h. simp b at (begun-all (c .before .loop .inv) (omega arith) k)) }
 
 pub sums-spec : {M : Type 1} → statement M
 sums-spec =
@@ -83,7 +78,6 @@ sums-spec =
     mul-rounding-2
     array-copy-out-rounding-2
     rounding-requires
-    masked-requires
     mul-r
     array-set-from-r
     add-e
