@@ -7,3 +7,4 @@ pub mod Widen
 pub mod Bits
 pub mod Narrow
 pub mod Read
+pub mod Ends

@@ -105,7 +105,7 @@ keep-neg half whole a w h =
     rw (mod-eq-of-lt {n = a} {m = whole} small, le-ltb (whole - suc a) half large)
     (ap (λ (z : ℤ). z -ℤ pos whole) down ∙ minus-pos (whole - suc a) 0 whole ∙ is-neg (whole - suc a) (0 + whole) a (omega arith))
 
-double : (N : ℕ) → 0 < N → 2 ^ N ≡ 2 ^ (N - 1) * 2
+pub double : (N : ℕ) → 0 < N → 2 ^ N ≡ 2 ^ (N - 1) * 2
 double zero h = absurd (omega arith)
 double (suc N) h = pow-suc 2 N ∙ ap (λ n. 2 ^ n * 2) (omega arith)
 

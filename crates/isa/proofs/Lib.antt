@@ -21,3 +21,4 @@ pub mod Going
 pub mod Order
 pub mod Fits
 pub mod Agnostic
+pub mod Words

@@ -13,7 +13,7 @@ use mir.Val.{toZ, ofZ, hbits}
 use Rattle.integer.proofs.Word.{kept}
 use Rattle.isa.specs.Stage.{lane, firstPlace, secondPlace, partnerOf, indexPlace}
 use Rattle.integer.specs.Number.{signed, pattern, digit, byteOf}
-use Rattle.isa.specs.Register.{Bytes, B, H, S, D, bytes, bits, little, element}
+use Rattle.isa.specs.Register.{Bytes, B, H, S, bytes, bits, little, element}
 
 -- the number in the bytes of an element of 16 bits
 pub element16 : (b : Bytes) (e : ℕ) → signed 16 (b (e + e) + 256 * b (e + e + 1)) ≡ element H b e
@@ -43,32 +43,6 @@ element32 b e k p = ap (signed 32) (omega (arith, ap b p, ap b p1, ap b p2, ap b
 
     p3 : k + 3 ≡ 4 * e + 1 + 1 + 1
     p3 = omega arith
-
-pub element64 : (b : Bytes) (e k : ℕ) → k ≡ 8 * e →
-    signed 64 (b k + 256 * (b (k + 1) + 256 * (b (k + 2) + 256 * b (k + 3))) + 4294967296 * (b (k + 4) + 256 * (b (k + 5) + 256 * (b (k + 6) + 256 * b (k + 7))))) ≡ element D b e
-unfolding element little bits bytes
-element64 b e k p = ap (signed 64) (omega (arith, ap b p, ap b p1, ap b p2, ap b p3, ap b p4, ap b p5, ap b p6, ap b p7))
-  where
-    p1 : k + 1 ≡ 8 * e + 1
-    p1 = omega arith
-
-    p2 : k + 2 ≡ 8 * e + 1 + 1
-    p2 = omega arith
-
-    p3 : k + 3 ≡ 8 * e + 1 + 1 + 1
-    p3 = omega arith
-
-    p4 : k + 4 ≡ 8 * e + 1 + 1 + 1 + 1
-    p4 = omega arith
-
-    p5 : k + 5 ≡ 8 * e + 1 + 1 + 1 + 1 + 1
-    p5 = omega arith
-
-    p6 : k + 6 ≡ 8 * e + 1 + 1 + 1 + 1 + 1 + 1
-    p6 = omega arith
-
-    p7 : k + 7 ≡ 8 * e + 1 + 1 + 1 + 1 + 1 + 1 + 1
-    p7 = omega arith
 
 -- ---- a lane that is taken from place i of a list, which is place j
 

@@ -8,7 +8,7 @@ use lib.ListN.{getD, length}
 use lib.Dec.{eqb, ltb}
 use lib.IntN.{ℤ, pos, _*ℤ_}
 use Rattle.integer.specs.Number.{signedBy, byteOf, rounded, clamp}
-use Rattle.isa.specs.Register.{Bytes, Size, bytes, bits, pairs, element}
+use Rattle.isa.specs.Register.{Bytes, Size, bytes, bits, pairs, little, element}
 use Rattle.isa.specs.Meaning.{Rotation, R0, R90, R180, R270}
 use Rattle.isa.specs.Segment.{bytesOf}
 
@@ -82,3 +82,7 @@ pub record Clamped (z : Size) (s t : List ℤ) : Type 0 where
 pub record Stored (z : Size) (r : List ℕ) (s : List ℤ) : Type 0 where
   pub sized : length r ≡ 16
   pub at : (i : ℕ) → i < 16 → bytesOf r i ≡ byteOf (bits z) (lane s (i / bytes z)) (i % bytes z)
+
+-- s holds the numbers of the bytes b, four by four, lowest byte first.
+pub record WordsOf (s : List ℕ) (b : Bytes) : Type 0 where
+  pub at : (k : ℕ) → k < 4 → getD s k 0 ≡ little b (4 * k) 4

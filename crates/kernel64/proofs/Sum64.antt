@@ -1,15 +1,17 @@
 -- The sum of a number of 64 bits and the high half of a product of two words, in halves that fit a word.
 -- Assumes nothing.
-use mathlib.Core.Path.{_≡_, refl, sym, ap, _∙_, subst}
+use mathlib.Core.Path.{_≡_, refl, sym, ap, _∙_}
+use mathlib.Core.Bool.{true, false}
 use Prim.Native.Nat.{ℕ, zero, suc, _+_, _*_, _/_, _%_, _^_, _≤_, _<_}
 use native.Mathlib.Nat.{add-mul, one-mul, le-of-mul-le-mul-right, lt-of-mul-lt-mul-right}
 use native.Mathlib.Omega.{arith}
-use lib.Dec.{lit<}
-use lib.IntN.{ℤ, pos, negsuc, negℤ, natAbs, _+ℤ_, _-ℤ_, _*ℤ_}
+use borrow.Author.Tests.{ltb-true, ltb-false, le-ltb}
+use lib.Dec.{lit<, ltb}
+use lib.IntN.{ℤ, pos, negsuc, natAbs, _+ℤ_, _-ℤ_, _*ℤ_}
 use lib.Signed.{shrZ, ltZ, mag}
-use Rattle.integer.specs.Number.{modZ, rounded}
+use Rattle.integer.specs.Number.{modZ, rounded, lowest, highest}
 use Rattle.kernel64.specs.Wide.{wideOf, sumHigh}
-use Rattle.integer.proofs.Difference.{diff, diffs, diff-eq, diff-shr, diff-mod, diff-mag, diff-abs, diff-range, diff-scale, diff-sub, diff-add, add-pos, all, all-multiple, is-pos, is-neg, diff-lt, same-test, pos-diff, minus-pos, diff-neg}
+use Rattle.integer.proofs.Difference.{diff, diffs, diff-eq, diff-shr, diff-mod, diff-mag, diff-abs, diff-range, diff-scale, diff-sub, diff-add, add-pos, all, all-multiple, is-pos, is-neg, diff-lt, same-test, pos-diff}
 use Rattle.kernel64.proofs.TwoWords.{wide-diff}
 use Rattle.integer.proofs.Round.{round-halved}
 
@@ -96,6 +98,26 @@ pub sum-is : (c t : ℤ) → sumHigh c t ≡ rounded 64 c t
 unfolding sumHigh
 sum-is c t = sym (round-halved 63 (2 ^ 62) refl c t)
 
+-- ---- the end that it can pass is that of the high word's sign
+sign-diff : (p q : ℕ) → ltZ (diff p q) (pos 0) ≡ ltb p q
+sign-diff p q = ap (ltZ (diff p q)) (pos-diff 0) ∙ diff-lt p q 0 0 ∙ same-test (p + 0) (0 + q) p q (omega arith) (omega arith)
+
+pub sum-positive : (c hi : ℤ) (lo : ℕ) → mag c < 2 ^ 63 → ltZ hi (pos 0) ≡ false → ltZ (sumHigh c (wideOf hi lo)) (lowest 64) ≡ false
+sum-positive c hi lo h f =
+    all-multiple 2 (lit< tt) (λ c. mag c < 2 ^ 63 → ltZ (sumHigh c (wideOf hi lo)) (lowest 64) ≡ false)
+    (λ x k h. all (λ hi. ltZ hi (pos 0) ≡ false → ltZ (sumHigh (diff x (k * 2)) (wideOf hi lo)) (lowest 64) ≡ false)
+    (λ p q f. let r = diff-range x (k * 2) (2 ^ 63) h in let l = ltb-false p q (sym (sign-diff p q) ∙ f) in
+    rw (sum-diff x k p q lo, sym (is-neg 0 9223372036854775808 9223372036854775807 refl), diff-lt)
+    (le-ltb (x + p * 2 + (lo / 4611686018427387904 + 1) / 2 + 9223372036854775808) (0 + (k * 2 + q * 2)) (omega arith))) hi f) c h
+
+pub sum-negative : (c hi : ℤ) (lo : ℕ) → mag c < 2 ^ 63 → lo < 2 ^ 64 → ltZ hi (pos 0) ≡ true → ltZ (highest 64) (sumHigh c (wideOf hi lo)) ≡ false
+sum-negative c hi lo h s f =
+    all-multiple 2 (lit< tt) (λ c. mag c < 2 ^ 63 → ltZ (highest 64) (sumHigh c (wideOf hi lo)) ≡ false)
+    (λ x k h. all (λ hi. ltZ hi (pos 0) ≡ true → ltZ (highest 64) (sumHigh (diff x (k * 2)) (wideOf hi lo)) ≡ false)
+    (λ p q f. let r = diff-range x (k * 2) (2 ^ 63) h in let l = ltb-true p q (sym (sign-diff p q) ∙ f) in
+    rw (sum-diff x k p q lo, sym (is-pos 9223372036854775807 0 9223372036854775807 refl), diff-lt)
+    (le-ltb (9223372036854775807 + (k * 2 + q * 2)) (x + p * 2 + (lo / 4611686018427387904 + 1) / 2 + 0) (omega arith))) hi f) c h
+
 -- ---- the two ends
 pub bottom : (high : ℤ) (low : ℕ) → low < 2 → ltZ high (negsuc 4611686018427387903) ≡ ltZ (high *ℤ pos 2 +ℤ pos low) (negsuc 9223372036854775807)
 bottom high low h =
@@ -120,44 +142,3 @@ twice-fits = all (λ z. mag z < 2 ^ 62 → mag (z +ℤ z) < 2 ^ 63)
 pub whole-fits : (high : ℤ) (low : ℕ) → low < 2 → mag high < 2 ^ 62 → mag (high +ℤ high +ℤ pos low) < 2 ^ 63
 whole-fits high low l = all (λ z. mag z < 2 ^ 62 → mag (z +ℤ z +ℤ pos low) < 2 ^ 63)
     (λ p q h. let r = diff-range p q (2 ^ 62) h in simp diffs (diff-mag (p + p + low) (q + q) (2 ^ 63) (omega arith) (omega arith))) high
-
--- ---- b * 2^63, as two words
-pub raised-plus : (b : ℤ) → wideOf (shrZ b 2) (modZ b 2 * 2 ^ 63) ≡ b *ℤ pos (2 ^ 63)
-raised-plus = all-multiple 2 (lit< tt) (λ b. wideOf (shrZ b 2) (modZ b 2 * 2 ^ 63) ≡ b *ℤ pos (2 ^ 63))
-    (λ x k. rw (diff-mod 2 (lit< tt) x k, diff-shr 2 (lit< tt) x k, wide-diff (x / 2) k (x % 2 * 2 ^ 63)) (sym (diff-scale x (k * 2) (2 ^ 63) ∙ diff-eq (x * 2 ^ 63) (k * 2 * 2 ^ 63) (x / 2 * 2 ^ 64 + x % 2 * 2 ^ 63) (k * 2 ^ 64) (omega arith))))
-
-minus-high : (x k : ℕ) → pos 0 -ℤ diff (x / 2) k -ℤ pos (x % 2) ≡ diff k (x / 2 + x % 2)
-minus-high x k =
-    ap (λ (z : ℤ). z -ℤ diff (x / 2) k -ℤ pos (x % 2)) (pos-diff 0) ∙ ap (λ (z : ℤ). z -ℤ pos (x % 2)) (diff-sub 0 0 (x / 2) k) ∙ minus-pos (0 + k) (0 + x / 2) (x % 2)
-    ∙ diff-eq (0 + k) (0 + x / 2 + x % 2) k (x / 2 + x % 2) (omega arith)
-
-pub raised-minus : (b : ℤ) → wideOf (pos 0 -ℤ shrZ b 2 -ℤ pos (modZ b 2)) (modZ b 2 * 2 ^ 63) ≡ negℤ b *ℤ pos (2 ^ 63)
-raised-minus = all-multiple 2 (lit< tt) (λ b. wideOf (pos 0 -ℤ shrZ b 2 -ℤ pos (modZ b 2)) (modZ b 2 * 2 ^ 63) ≡ negℤ b *ℤ pos (2 ^ 63))
-    (λ x k. rw (diff-mod 2 (lit< tt) x k, diff-shr 2 (lit< tt) x k, minus-high x k, wide-diff k (x / 2 + x % 2) (x % 2 * 2 ^ 63), diff-neg x (k * 2))
-    (sym (diff-scale (k * 2) x (2 ^ 63) ∙ diff-eq (k * 2 * 2 ^ 63) (x * 2 ^ 63) (k * 2 ^ 64 + x % 2 * 2 ^ 63) ((x / 2 + x % 2) * 2 ^ 64) (omega arith))))
-
-pub negative-half : (b : ℤ) → mag b < 2 ^ 63 → mag (pos 0 -ℤ shrZ b 2) < 2 ^ 63
-negative-half = all-multiple 2 (lit< tt) (λ b. mag b < 2 ^ 63 → mag (pos 0 -ℤ shrZ b 2) < 2 ^ 63)
-    (λ x k h. let r = diff-range x (k * 2) (2 ^ 63) h in
-    rw (diff-shr 2 (lit< tt) x k) (subst (λ (z : ℤ). mag (z -ℤ diff (x / 2) k) < 2 ^ 63) (sym (pos-diff 0)) (simp diff-sub (diff-mag (0 + k) (0 + x / 2) (2 ^ 63) (omega arith) (omega arith)))))
-
-pub negative-whole : (b : ℤ) → mag b < 2 ^ 63 → mag (pos 0 -ℤ shrZ b 2 -ℤ pos (modZ b 2)) < 2 ^ 63
-negative-whole = all-multiple 2 (lit< tt) (λ b. mag b < 2 ^ 63 → mag (pos 0 -ℤ shrZ b 2 -ℤ pos (modZ b 2)) < 2 ^ 63)
-    (λ x k h. let r = diff-range x (k * 2) (2 ^ 63) h in
-    rw (diff-mod 2 (lit< tt) x k, diff-shr 2 (lit< tt) x k, minus-high x k) (diff-mag k (x / 2 + x % 2) (2 ^ 63) (omega arith) (omega arith)))
-
--- its sum with c, rounded, is the exact sum
-pub sum-raised : (c t : ℤ) → sumHigh c (t *ℤ pos (2 ^ 63)) ≡ c +ℤ t
-unfolding sumHigh
-sum-raised c t =
-    all (λ c. shrZ (c *ℤ pos (2 ^ 63) +ℤ pos (2 ^ 62) +ℤ t *ℤ pos (2 ^ 63)) (2 ^ 63) ≡ c +ℤ t)
-    (λ a b. all (λ t. shrZ (diff a b *ℤ pos (2 ^ 63) +ℤ pos (2 ^ 62) +ℤ t *ℤ pos (2 ^ 63)) (2 ^ 63) ≡ diff a b +ℤ t)
-    (λ x y. simp (diff-scale, add-pos, diff-add)
-    (ap (λ (n : ℕ). shrZ (diff (a * 2 ^ 63 + 2 ^ 62 + x * 2 ^ 63) n) (2 ^ 63)) (multiple b y) ∙ diff-shr (2 ^ 63) (lit< tt) (a * 2 ^ 63 + 2 ^ 62 + x * 2 ^ 63) (b + y)
-    ∙ ap (λ (n : ℕ). diff n (b + y)) (quotient a x))) t) c
-  where
-    multiple : (b y : ℕ) → b * 2 ^ 63 + y * 2 ^ 63 ≡ (b + y) * 2 ^ 63
-    multiple b y = omega arith
-
-    quotient : (a x : ℕ) → (a * 2 ^ 63 + 2 ^ 62 + x * 2 ^ 63) / 2 ^ 63 ≡ a + x
-    quotient a x = omega arith

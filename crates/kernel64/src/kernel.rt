@@ -1,6 +1,11 @@
-// The families by vectors.
+// The families by vectors. Each is there twice, by whether its rotation crosses: the loops over registers choose the
+// rotation once, outside, and the compiler sees a constant where a lane takes its sources. The two are `pub` for those
+// loops, whose callers have looked at the rotation.
+ghost use mathlib.Core.Path.{_≡_};
+ghost use mathlib.Core.Bool.{true, false};
 ghost use Rattle.isa.specs.Meaning.{own, caddOf, sqcaddOf, cmlaOf, sqrdcmlahOf};
 ghost use Rattle.isa.specs.Segment.{Segment};
+ghost use Rattle.isa.specs.Stage.{crossed};
 use crate::segment::adds;
 use crate::segment::bytes;
 use crate::segment::doubled;
@@ -16,41 +21,121 @@ use isa::types::Rotation;
 use isa::types::Size;
 
 // CADD on one segment.
-pub fn cadd(c: [u8; 16], m: [u8; 16], rot: Rotation) -> [u8; 16]
+pub fn cadd_straight(c: [u8; 16], m: [u8; 16], rot: Rotation) -> [u8; 16]
+    requires { ⌜ crossed rot ≡ false ⌝ }
     ensures { λ r. ⌜ Segment Size.D own (caddOf rot) r c c m ⌝ }
 {
     let x = lanes(c);
-    let z = turned(lanes(m), crosses(rot));
+    let z = turned(lanes(m), false);
     bytes(adds(x, z, minus_real(rot), minus_imaginary(rot)))
 }
 
+pub fn cadd_crossed(c: [u8; 16], m: [u8; 16], rot: Rotation) -> [u8; 16]
+    requires { ⌜ crossed rot ≡ true ⌝ }
+    ensures { λ r. ⌜ Segment Size.D own (caddOf rot) r c c m ⌝ }
+{
+    let x = lanes(c);
+    let z = turned(lanes(m), true);
+    bytes(adds(x, z, minus_real(rot), minus_imaginary(rot)))
+}
+
+pub fn cadd(c: [u8; 16], m: [u8; 16], rot: Rotation) -> [u8; 16]
+    ensures { λ r. ⌜ Segment Size.D own (caddOf rot) r c c m ⌝ }
+{
+    if crosses(rot) {
+        cadd_crossed(c, m, rot)
+    } else {
+        cadd_straight(c, m, rot)
+    }
+}
+
 // SQCADD on one segment.
-pub fn sqcadd(c: [u8; 16], m: [u8; 16], rot: Rotation) -> [u8; 16]
+pub fn sqcadd_straight(c: [u8; 16], m: [u8; 16], rot: Rotation) -> [u8; 16]
+    requires { ⌜ crossed rot ≡ false ⌝ }
     ensures { λ r. ⌜ Segment Size.D own (sqcaddOf 64 rot) r c c m ⌝ }
 {
     let x = lanes(c);
-    let z = turned(lanes(m), crosses(rot));
+    let z = turned(lanes(m), false);
     bytes(sats(x, z, minus_real(rot), minus_imaginary(rot)))
 }
 
+pub fn sqcadd_crossed(c: [u8; 16], m: [u8; 16], rot: Rotation) -> [u8; 16]
+    requires { ⌜ crossed rot ≡ true ⌝ }
+    ensures { λ r. ⌜ Segment Size.D own (sqcaddOf 64 rot) r c c m ⌝ }
+{
+    let x = lanes(c);
+    let z = turned(lanes(m), true);
+    bytes(sats(x, z, minus_real(rot), minus_imaginary(rot)))
+}
+
+pub fn sqcadd(c: [u8; 16], m: [u8; 16], rot: Rotation) -> [u8; 16]
+    ensures { λ r. ⌜ Segment Size.D own (sqcaddOf 64 rot) r c c m ⌝ }
+{
+    if crosses(rot) {
+        sqcadd_crossed(c, m, rot)
+    } else {
+        sqcadd_straight(c, m, rot)
+    }
+}
+
 // CMLA on one segment.
-pub fn cmla(c: [u8; 16], n: [u8; 16], m: [u8; 16], rot: Rotation) -> [u8; 16]
+pub fn cmla_straight(c: [u8; 16], n: [u8; 16], m: [u8; 16], rot: Rotation) -> [u8; 16]
+    requires { ⌜ crossed rot ≡ false ⌝ }
     ensures { λ r. ⌜ Segment Size.D own (cmlaOf rot) r c n m ⌝ }
 {
-    let odd = crosses(rot);
     let x = lanes(c);
-    let y = doubled(lanes(n), odd);
-    let z = turned(lanes(m), odd);
+    let y = doubled(lanes(n), false);
+    let z = turned(lanes(m), false);
     bytes(mlas(x, y, z, minus_real(rot), minus_imaginary(rot)))
 }
 
+pub fn cmla_crossed(c: [u8; 16], n: [u8; 16], m: [u8; 16], rot: Rotation) -> [u8; 16]
+    requires { ⌜ crossed rot ≡ true ⌝ }
+    ensures { λ r. ⌜ Segment Size.D own (cmlaOf rot) r c n m ⌝ }
+{
+    let x = lanes(c);
+    let y = doubled(lanes(n), true);
+    let z = turned(lanes(m), true);
+    bytes(mlas(x, y, z, minus_real(rot), minus_imaginary(rot)))
+}
+
+pub fn cmla(c: [u8; 16], n: [u8; 16], m: [u8; 16], rot: Rotation) -> [u8; 16]
+    ensures { λ r. ⌜ Segment Size.D own (cmlaOf rot) r c n m ⌝ }
+{
+    if crosses(rot) {
+        cmla_crossed(c, n, m, rot)
+    } else {
+        cmla_straight(c, n, m, rot)
+    }
+}
+
 // SQRDCMLAH on one segment.
+pub fn sqrdcmlah_straight(c: [u8; 16], n: [u8; 16], m: [u8; 16], rot: Rotation) -> [u8; 16]
+    requires { ⌜ crossed rot ≡ false ⌝ }
+    ensures { λ r. ⌜ Segment Size.D own (sqrdcmlahOf 64 rot) r c n m ⌝ }
+{
+    let x = lanes(c);
+    let y = doubled(lanes(n), false);
+    let z = turned(lanes(m), false);
+    bytes(rounds(x, y, z, minus_real(rot), minus_imaginary(rot)))
+}
+
+pub fn sqrdcmlah_crossed(c: [u8; 16], n: [u8; 16], m: [u8; 16], rot: Rotation) -> [u8; 16]
+    requires { ⌜ crossed rot ≡ true ⌝ }
+    ensures { λ r. ⌜ Segment Size.D own (sqrdcmlahOf 64 rot) r c n m ⌝ }
+{
+    let x = lanes(c);
+    let y = doubled(lanes(n), true);
+    let z = turned(lanes(m), true);
+    bytes(rounds(x, y, z, minus_real(rot), minus_imaginary(rot)))
+}
+
 pub fn sqrdcmlah(c: [u8; 16], n: [u8; 16], m: [u8; 16], rot: Rotation) -> [u8; 16]
     ensures { λ r. ⌜ Segment Size.D own (sqrdcmlahOf 64 rot) r c n m ⌝ }
 {
-    let odd = crosses(rot);
-    let x = lanes(c);
-    let y = doubled(lanes(n), odd);
-    let z = turned(lanes(m), odd);
-    bytes(rounds(x, y, z, minus_real(rot), minus_imaginary(rot)))
+    if crosses(rot) {
+        sqrdcmlah_crossed(c, n, m, rot)
+    } else {
+        sqrdcmlah_straight(c, n, m, rot)
+    }
 }

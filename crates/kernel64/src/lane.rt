@@ -1,11 +1,10 @@
 // One lane of 64 bits. A sum is kept as twice a word plus a bit, so that it is exact before the clamp.
 ghost use mathlib.Core.Path.{_≡_};
-ghost use Prim.Native.Nat.{_^_, _<_};
+ghost use Prim.Native.Nat.{_<_};
 ghost use lib.IntN.{pos, _+ℤ_, _*ℤ_};
 ghost use Rattle.integer.specs.Number.{modZ, clamp, signedBy};
 ghost use Rattle.integer.specs.Lane.{saturated, wrapped, clamped};
-ghost use Rattle.kernel64.specs.Wide.{wideOf, WideIn, sumHigh};
-use crate::product::SignedWide;
+ghost use Rattle.kernel64.specs.Wide.{wideOf, WideIn, NarrowIn, sumHigh};
 use crate::product::product;
 use crate::product::wide_product;
 use common::bits64::of_bits;
@@ -37,18 +36,23 @@ fn rounding(c: i64, hi: i64, lo: u64) -> Halves
     }
 }
 
-// Twice high plus low, brought into 64 bits.
-fn narrow(high: i64, low: u64) -> i64
-    requires { ⌜ low < 2 ⌝ }
+// Twice high plus low, brought into 64 bits. The end is that of hi's sign, and not of a test of its own: so the compiler
+// makes no branch of the clamp, which data would mispredict.
+fn narrow(high: i64, low: u64, hi: i64) -> i64
+    requires { ⌜ NarrowIn high low hi ⌝ }
     ensures { λ r. ⌜ r ≡ clamp 64 (high *ℤ pos 2 +ℤ pos low) ⌝ }
 {
-    if high < -4611686018427387904 {
-        -9223372036854775808
-    } else if 4611686018427387903 < high {
-        9223372036854775807
+    let end = if hi < 0 {
+        -9223372036854775808i64
     } else {
-        high + high + (low as i64)
-    }
+        9223372036854775807i64
+    };
+    let out = if high < -4611686018427387904 {
+        true
+    } else {
+        4611686018427387903 < high
+    };
+    if out { end } else { high + high + (low as i64) }
 }
 
 // c and the product of a and b, or its negative, doubled and rounded to its upper half, clamped.
@@ -57,32 +61,22 @@ pub fn round(c: i64, a: i64, b: i64, minus: bool) -> i64
 {
     let p = product(a, b, minus);
     let h = rounding(c, p.hi, p.lo);
-    narrow(h.high, h.low)
+    narrow(h.high, h.low, p.hi)
 }
 
-// b times 2^63, or its negative.
-fn raised(b: i64, minus: bool) -> SignedWide
-    ensures { λ r. ⌜ wideOf (r .hi) (r .lo) ≡ signedBy minus b *ℤ pos (2 ^ 63) ⌝ }
-{
-    let h = b >> 1;
-    let l = low_bit(b);
-    if minus {
-        SignedWide {
-            hi: 0 - h - (l as i64),
-            lo: l << 63,
-        }
-    } else {
-        SignedWide { hi: h, lo: l << 63 }
-    }
-}
-
-// c plus or minus b, clamped.
+// c plus or minus b, clamped: where both summands have one sign and the wrapped sum the other, it is the end.
 pub fn sat(c: i64, b: i64, minus: bool) -> i64
     ensures { λ r. ⌜ r ≡ clamped 64 c (signedBy minus b) ⌝ }
 {
-    let p = raised(b, minus);
-    let h = rounding(c, p.hi, p.lo);
-    narrow(h.high, h.low)
+    let s = add(c, b, minus);
+    let end = if c < 0 {
+        -9223372036854775808i64
+    } else {
+        9223372036854775807i64
+    };
+    let same = (c < 0) == ((b < 0) != minus);
+    let turned = (s < 0) != (c < 0);
+    if same & turned { end } else { s }
 }
 
 // a plus or minus b, modulo 2^64.

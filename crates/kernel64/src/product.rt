@@ -1,7 +1,7 @@
 // Products of lanes, two words put together from products of halves: the only place that multiplies.
 ghost use mathlib.Core.Path.{_≡_};
 ghost use mathlib.Core.Bool.{cond};
-ghost use Prim.Native.Nat.{_+_, _*_, _^_, _≤_, _<_};
+ghost use Prim.Native.Nat.{_+_, _*_, _/_, _%_, _^_, _≤_, _<_};
 ghost use lib.IntN.{pos, natAbs, negℤ, _*ℤ_};
 ghost use Rattle.integer.specs.Number.{signedBy};
 ghost use Rattle.kernel64.specs.Wide.{wideOf};
@@ -18,17 +18,18 @@ pub struct SignedWide {
     pub lo: u64,
 }
 
-// The product of two numbers of 32 bits.
+// The product of two numbers of 32 bits. It leaves room for two carries.
 fn half_product(a: u64, b: u64) -> u64
     requires { ⌜ (a < 2 ^ 32) × (b < 2 ^ 32) ⌝ }
-    ensures { λ r. ⌜ r ≡ a * b ⌝ }
+    ensures { λ r. ⌜ (r ≡ a * b) × (r ≤ 4294967295 * 4294967295) ⌝ }
 {
     a * b
 }
 
-// The whole product of two words, column by column in base 2^32.
-pub fn wide_product(u: u64, v: u64) -> Wide
-    ensures { λ r. ⌜ r .hi * 2 ^ 64 + r .lo ≡ u * v ⌝ }
+// The upper word of a product of two words, column by column in base 2^32. The lower word is another function: each is
+// one instruction for the compiler, and the two made together were four products.
+fn high_word(u: u64, v: u64) -> u64
+    ensures { λ r. ⌜ r ≡ u * v / 2 ^ 64 ⌝ }
 {
     let u1 = u / 4294967296;
     let u0 = u % 4294967296;
@@ -40,9 +41,32 @@ pub fn wide_product(u: u64, v: u64) -> Wide
     let z = half_product(u1, v1);
     let t = x + w / 4294967296;
     let s = y + t % 4294967296;
+    z + t / 4294967296 + s / 4294967296
+}
+
+// The lower word: the column of z does not reach it.
+fn low_word(u: u64, v: u64) -> u64
+    ensures { λ r. ⌜ r ≡ u * v % 2 ^ 64 ⌝ }
+{
+    let u1 = u / 4294967296;
+    let u0 = u % 4294967296;
+    let v1 = v / 4294967296;
+    let v0 = v % 4294967296;
+    let w = half_product(u0, v0);
+    let x = half_product(u1, v0);
+    let y = half_product(u0, v1);
+    let t = x + w / 4294967296;
+    let s = y + t % 4294967296;
+    ((s % 4294967296) << 32) + w % 4294967296
+}
+
+// The whole product of two words.
+pub fn wide_product(u: u64, v: u64) -> Wide
+    ensures { λ r. ⌜ r .hi * 2 ^ 64 + r .lo ≡ u * v ⌝ }
+{
     Wide {
-        hi: z + t / 4294967296 + s / 4294967296,
-        lo: ((s % 4294967296) << 32) + w % 4294967296,
+        hi: high_word(u, v),
+        lo: low_word(u, v),
     }
 }
 

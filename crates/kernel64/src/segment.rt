@@ -18,15 +18,8 @@ use isa::types::Size;
 pub fn lanes(b: [u8; 16]) -> [i64; 2]
     ensures { λ r. ⌜ LanesOf Size.D r (bytesOf b) ⌝ }
 {
-    let mut r = [0i64; 2];
-    for e in 0..2 {
-        let k = e << 3;
-        r[e] = of_bits(word(
-            bits32::word(b[k], b[k + 1], b[k + 2], b[k + 3]),
-            bits32::word(b[k + 4], b[k + 5], b[k + 6], b[k + 7]),
-        ));
-    }
-    r
+    let h = bits32::words(b);
+    [of_bits(word(h[0], h[1])), of_bits(word(h[2], h[3]))]
 }
 
 pub fn bytes(s: [i64; 2]) -> [u8; 16]

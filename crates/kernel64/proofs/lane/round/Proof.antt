@@ -13,7 +13,7 @@ use Rattle.integer.proofs.Difference.{product-abs}
 use Rattle.integer.proofs.Word.{kept}
 use Rattle.kernel64.specs.Wide.{wideOf}
 use Rattle.kernel64.proofs.TwoWords.{abs-signed}
-use Rattle.kernel64.proofs.Sum64.{sum-is}
+use Rattle.kernel64.proofs.Sum64.{sum-is, sum-positive, sum-negative}
 use Rattle.kernel64.proofs.lane.round.Statement.{statement}
 use Rattle.kernel64.proofs.lane.round.Tie as tie
 
@@ -31,17 +31,27 @@ rounding-requires c κs =
     (record { size = rw (exact (c .before), abs-signed (s .args .minus) (s .args .a *ℤ s .args .b)) (product-abs (s .args .a) (s .args .b) {A = 2 ^ 63} {B = 2 ^ 63} (natAbs-le (s .args .a) (s .fits .a .sfits)) (natAbs-le (s .args .b) (s .fits .b .sfits))) })
 
 narrow-requires : tie.Need-narrow-requires
-narrow-requires c κs = search needs
+narrow-requires c κs =
+    let q = c .before .before in
+    let p = q .before in
+    let s = p .before .before in
+    let e = simp (toZ-ofZ (s .fits .c), kept w64 (p .before .product .result .hi) (p .struct-told .given .0 .1)) at (q .rounding .ensures .1) in
+    simp (kept w64 (q .rounding .result .high) (c .before .struct-told2 .given .0 .1), kept w64 (p .before .product .result .hi) (p .struct-told .given .0 .1))
+    (record {
+      bit = q .rounding .ensures .0;
+      positive = (λ h. rw e (sum-positive (s .args .c) (p .before .product .result .hi) (p .before .product .result .lo) (s .fits .c .sfits) h));
+      negative = (λ h. rw e (sum-negative (s .args .c) (p .before .product .result .hi) (p .before .product .result .lo) (s .fits .c .sfits) (search needs) h));
+    })
 
 returns : tie.Need-returns
 unfolding saturated
 returns c =
-    let q = c .before .before in
+    let q = c .before .before .before in
     let p = q .before in
     let s = p .before .before in
     let e = simp (exact (p .before)) at (simp (toZ-ofZ (s .fits .c), kept w64 (p .before .product .result .hi) (p .struct-told .given .0 .1)) at (q .rounding .ensures .1)) in
     kept w64 (c .narrow .result) (c .narrow .ok) ∙ c .narrow .ensures
-    ∙ ap (clamp 64) (simp (kept w64 (q .rounding .result .high) (c .before .struct-told2 .given .0 .1)) (e ∙ sum-is (s .args .c) (signedBy (s .args .minus) (s .args .a *ℤ s .args .b))))
+    ∙ ap (clamp 64) (simp (kept w64 (q .rounding .result .high) (c .before .before .struct-told2 .given .0 .1)) (e ∙ sum-is (s .args .c) (signedBy (s .args .minus) (s .args .a *ℤ s .args .b))))
 
 pub round-spec : {M : Type 1} → statement M
 round-spec = tie.close (tie.spec product-requires rounding-requires narrow-requires returns)

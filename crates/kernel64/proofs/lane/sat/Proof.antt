@@ -1,47 +1,48 @@
--- `kernel64::lane::sat` meets its contract: the exact sum in halves, and the clamp.
+-- `kernel64::lane::sat` meets its contract: the signs tell whether the wrapped sum is the sum, and which end it passed.
 -- Assumes nothing.
-use mathlib.Core.Path.{_≡_, ap, _∙_}
-use Prim.Native.Nat.{_^_}
-use native.Mathlib.Nat.{le-refl}
+use mathlib.Core.Path.{_≡_, _∙_}
+use mathlib.Core.Bool.{cond}
+use mathlib.Core.Logic.{⊎-elim}
 use borrow.Author.Needs.{needs}
-use lib.IntN.{pos, _*ℤ_}
-use lib.Signed.{natAbs-le}
+use lib.Dec.{lit<}
+use lib.IntN.{pos, _+ℤ_}
+use lib.Signed.{ltZ}
 use mir.Syntax.{w64}
+use mir.Val.{toZ, ofZ}
 use mir.Facts.{toZ-ofZ}
-use Rattle.integer.specs.Number.{clamp, signedBy}
-use Rattle.integer.specs.Lane.{clamped}
-use Rattle.integer.proofs.Difference.{product-abs}
+use Rattle.integer.specs.Number.{wrap, lowest, highest, signedBy}
+use Rattle.integer.specs.Lane.{wrapped, clamped}
 use Rattle.integer.proofs.Word.{kept}
-use Rattle.kernel64.specs.Wide.{wideOf}
-use Rattle.kernel64.proofs.TwoWords.{abs-signed}
-use Rattle.kernel64.proofs.Sum64.{sum-raised}
+use Rattle.integer.proofs.Ends.{sum-turned, sum-kept}
 use Rattle.kernel64.proofs.lane.sat.Statement.{statement}
 use Rattle.kernel64.proofs.lane.sat.Tie as tie
 
-raised-requires : tie.Need-raised-requires
-raised-requires c κs = search needs
+add-requires : tie.Need-add-requires
+add-requires c κs = search needs
 
-exact : (c : tie.After-raised) → wideOf (c .raised .result .hi) (c .raised .result .lo) ≡ signedBy (c .before .args .minus) (c .before .args .b) *ℤ pos (2 ^ 63)
-exact c = let s = c .before in simp (toZ-ofZ (s .fits .b)) at (c .raised .ensures)
+-- the wrapped sum, and the end by c's sign
+sum : (c : tie.After-add) → c .add .result ≡ wrap 64 (c .before .args .c +ℤ signedBy (c .before .args .minus) (c .before .args .b))
+unfolding wrapped
+sum c = simp (toZ-ofZ (c .before .fits .c), toZ-ofZ (c .before .fits .b)) at (c .add .ensures)
 
-rounding-requires : tie.Need-rounding-requires
-rounding-requires c κs =
-    let s = c .before .before in
-    simp (kept w64 (c .before .raised .result .hi) (c .struct-told .given .0 .1))
-    (record { size = rw (exact (c .before)) (product-abs (signedBy (s .args .minus) (s .args .b)) (pos (2 ^ 63)) {A = 2 ^ 63} {B = 2 ^ 63} (rw (abs-signed (s .args .minus) (s .args .b)) (natAbs-le (s .args .b) (s .fits .b .sfits))) (le-refl (2 ^ 63))) })
-
-narrow-requires : tie.Need-narrow-requires
-narrow-requires c κs = search needs
+end : (c : tie.Joined1) → toZ w64 (c .if1 .end) ≡ cond (ltZ (toZ w64 (ofZ w64 (c .before .before .args .c))) (pos 0)) (lowest 64) (highest 64)
+end c = ⊎-elim (λ w. rw (w .1, w .0 .taken)) (λ w. rw (w .1, w .0 .left)) (c .if1 .came)
 
 returns : tie.Need-returns
 unfolding clamped
 returns c =
-    let q = c .before .before in
-    let p = q .before in
-    let s = p .before .before in
-    let e = simp (exact (p .before)) at (simp (toZ-ofZ (s .fits .c), kept w64 (p .before .raised .result .hi) (p .struct-told .given .0 .1)) at (q .rounding .ensures .1)) in
-    kept w64 (c .narrow .result) (c .narrow .ok) ∙ c .narrow .ensures
-    ∙ ap (clamp 64) (simp (kept w64 (q .rounding .result .high) (c .before .struct-told2 .given .0 .1)) (e ∙ sum-raised (s .args .c) (signedBy (s .args .minus) (s .args .b))))
+    let a = c .before .before in
+    let s = a .before in
+    let t = simp (sum a) at (simp (toZ-ofZ (s .fits .c), toZ-ofZ (s .fits .b), kept w64 (a .add .result) (a .add .ok)) at (c .if2 .taken)) in
+    end (c .before) ∙ simp (toZ-ofZ (s .fits .c)) (sum-turned 64 (lit< tt) (s .args .c) (s .args .b) (s .args .minus) (s .fits .c .sfits) (s .fits .b .sfits) t)
+
+returns-2 : tie.Need-returns-2
+unfolding clamped
+returns-2 c =
+    let a = c .before .before in
+    let s = a .before in
+    let t = simp (sum a) at (simp (toZ-ofZ (s .fits .c), toZ-ofZ (s .fits .b), kept w64 (a .add .result) (a .add .ok)) at (c .if2 .left)) in
+    kept w64 (a .add .result) (a .add .ok) ∙ sum a ∙ sum-kept 64 (lit< tt) (s .args .c) (s .args .b) (s .args .minus) (s .fits .c .sfits) (s .fits .b .sfits) t
 
 pub sat-spec : {M : Type 1} → statement M
-sat-spec = tie.close (tie.spec raised-requires rounding-requires narrow-requires returns)
+sat-spec = tie.close (tie.spec add-requires returns returns-2)

@@ -1,23 +1,20 @@
--- `kernel64::kernel::sqcadd` meets its contract: the stages make the definition.
+-- `kernel64::kernel::sqcadd_straight` meets its contract: the stages make the definition.
 -- Assumes nothing.
-use mathlib.Core.Path.{refl}
+use mathlib.Core.Path.{refl, sym}
 use borrow.Author.Needs.{needs}
 use Rattle.integer.specs.Number.{clamp}
 use Rattle.integer.specs.Lane.{clamped}
 use Rattle.isa.specs.declared.types.Size.the-variants.{D}
 use Rattle.isa.specs.Meaning.{sqcaddOf}
 use Rattle.isa.proofs.Pair.{sums}
-use Rattle.kernel64.proofs.kernel.sqcadd.Statement.{statement}
-use Rattle.kernel64.proofs.kernel.sqcadd.Tie as tie
+use Rattle.kernel64.proofs.kernel.sqcadd_straight.Statement.{statement}
+use Rattle.kernel64.proofs.kernel.sqcadd_straight.Tie as tie
 
 lanes-requires : tie.Need-lanes-requires
 lanes-requires c κs = search needs
 
 lanes-requires-2 : tie.Need-lanes-requires-2
 lanes-requires-2 c κs = search needs
-
-crosses-requires : tie.Need-crosses-requires
-crosses-requires c κs = search needs
 
 turned-requires : tie.Need-turned-requires
 turned-requires c κs = search needs
@@ -40,19 +37,17 @@ returns c =
     let i = c .before .before in
     let k = i .before in
     let t = k .before in
-    let o = t .before in
-    let m = o .before in
+    let m = t .before in
     let x = m .before in
-    sums D (clamp 64) (clamped 64) (λ a b. refl) (x .before .args .rot) (o .crosses .ensures) (k .minus-real .ensures) (i .minus-imaginary .ensures)
+    sums D (clamp 64) (clamped 64) (λ a b. refl) (x .before .args .rot) (sym (x .before .pre)) (k .minus-real .ensures) (i .minus-imaginary .ensures)
     (x .lanes .ensures) (m .lanes2 .ensures) (t .turned .ensures) (c .before .sats .ensures) (c .bytes .ensures)
 
-pub sqcadd-spec : {M : Type 1} → statement M
-sqcadd-spec =
+pub sqcadd-straight-spec : {M : Type 1} → statement M
+sqcadd-straight-spec =
     tie.close
     (tie.spec
     lanes-requires
     lanes-requires-2
-    crosses-requires
     turned-requires
     minus-real-requires
     minus-imaginary-requires

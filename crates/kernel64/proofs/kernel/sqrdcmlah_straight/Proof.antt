@@ -1,18 +1,13 @@
--- `kernel64::kernel::cmla` meets its contract: the stages make the definition.
+-- `kernel64::kernel::sqrdcmlah_straight` meets its contract: the stages make the definition.
 -- Assumes nothing.
+use mathlib.Core.Path.{refl, sym}
 use borrow.Author.Needs.{needs}
-use lib.IntN.{_+ℤ_}
-use Rattle.integer.specs.Lane.{wrapped}
-use Rattle.integer.proofs.Word.{pattern-wrapped}
+use Rattle.integer.specs.Lane.{saturated}
 use Rattle.isa.specs.declared.types.Size.the-variants.{D}
-use Rattle.isa.specs.Register.{bits, bytes}
-use Rattle.isa.specs.Meaning.{own, cmlaOf}
+use Rattle.isa.specs.Meaning.{own, sqrdcmlahOf}
 use Rattle.isa.proofs.Pair.{products, own-second}
-use Rattle.kernel64.proofs.kernel.cmla.Statement.{statement}
-use Rattle.kernel64.proofs.kernel.cmla.Tie as tie
-
-crosses-requires : tie.Need-crosses-requires
-crosses-requires c κs = search needs
+use Rattle.kernel64.proofs.kernel.sqrdcmlah_straight.Statement.{statement}
+use Rattle.kernel64.proofs.kernel.sqrdcmlah_straight.Tie as tie
 
 lanes-requires : tie.Need-lanes-requires
 lanes-requires c κs = search needs
@@ -35,14 +30,14 @@ minus-real-requires c κs = search needs
 minus-imaginary-requires : tie.Need-minus-imaginary-requires
 minus-imaginary-requires c κs = search needs
 
-mlas-requires : tie.Need-mlas-requires
-mlas-requires c κs = search needs
+rounds-requires : tie.Need-rounds-requires
+rounds-requires c κs = search needs
 
 bytes-requires : tie.Need-bytes-requires
 bytes-requires c κs = search needs
 
 returns : tie.Need-returns
-unfolding cmlaOf bits bytes
+unfolding sqrdcmlahOf
 returns c =
     let i = c .before .before in
     let k = i .before in
@@ -51,14 +46,13 @@ returns c =
     let y = m .before in
     let n = y .before in
     let x = n .before in
-    products D own _+ℤ_ (wrapped 64) (pattern-wrapped 64) (x .before .before .args .rot) (x .before .crosses .ensures) (k .minus-real .ensures) (i .minus-imaginary .ensures)
-    (x .lanes .ensures) (n .lanes2 .ensures) (y .doubled .ensures) (own-second D _ (m .lanes3 .ensures) (t .turned .ensures)) (c .before .mlas .ensures) (c .bytes .ensures)
+    products D own (saturated 64) (saturated 64) (λ a b. refl) (x .before .args .rot) (sym (x .before .pre)) (k .minus-real .ensures) (i .minus-imaginary .ensures)
+    (x .lanes .ensures) (n .lanes2 .ensures) (y .doubled .ensures) (own-second D _ (m .lanes3 .ensures) (t .turned .ensures)) (c .before .rounds .ensures) (c .bytes .ensures)
 
-pub cmla-spec : {M : Type 1} → statement M
-cmla-spec =
+pub sqrdcmlah-straight-spec : {M : Type 1} → statement M
+sqrdcmlah-straight-spec =
     tie.close
     (tie.spec
-    crosses-requires
     lanes-requires
     lanes-requires-2
     doubled-requires
@@ -66,6 +60,6 @@ cmla-spec =
     turned-requires
     minus-real-requires
     minus-imaginary-requires
-    mlas-requires
+    rounds-requires
     bytes-requires
     returns)

@@ -1,5 +1,6 @@
--- `kernel64::kernel::cadd` meets its contract: the stages make the definition.
+-- `kernel64::kernel::cadd_straight` meets its contract: the stages make the definition.
 -- Assumes nothing.
+use mathlib.Core.Path.{sym}
 use borrow.Author.Needs.{needs}
 use Rattle.integer.specs.Lane.{wrapped}
 use Rattle.integer.proofs.Word.{pattern-wrapped}
@@ -7,17 +8,14 @@ use Rattle.isa.specs.declared.types.Size.the-variants.{D}
 use Rattle.isa.specs.Register.{bits, bytes}
 use Rattle.isa.specs.Meaning.{caddOf, each}
 use Rattle.isa.proofs.Pair.{sums}
-use Rattle.kernel64.proofs.kernel.cadd.Statement.{statement}
-use Rattle.kernel64.proofs.kernel.cadd.Tie as tie
+use Rattle.kernel64.proofs.kernel.cadd_straight.Statement.{statement}
+use Rattle.kernel64.proofs.kernel.cadd_straight.Tie as tie
 
 lanes-requires : tie.Need-lanes-requires
 lanes-requires c κs = search needs
 
 lanes-requires-2 : tie.Need-lanes-requires-2
 lanes-requires-2 c κs = search needs
-
-crosses-requires : tie.Need-crosses-requires
-crosses-requires c κs = search needs
 
 turned-requires : tie.Need-turned-requires
 turned-requires c κs = search needs
@@ -40,19 +38,17 @@ returns c =
     let i = c .before .before in
     let k = i .before in
     let t = k .before in
-    let o = t .before in
-    let m = o .before in
+    let m = t .before in
     let x = m .before in
-    sums D (λ v. v) (wrapped 64) (pattern-wrapped 64) (x .before .args .rot) (o .crosses .ensures) (k .minus-real .ensures) (i .minus-imaginary .ensures)
+    sums D (λ v. v) (wrapped 64) (pattern-wrapped 64) (x .before .args .rot) (sym (x .before .pre)) (k .minus-real .ensures) (i .minus-imaginary .ensures)
     (x .lanes .ensures) (m .lanes2 .ensures) (t .turned .ensures) (c .before .adds .ensures) (c .bytes .ensures)
 
-pub cadd-spec : {M : Type 1} → statement M
-cadd-spec =
+pub cadd-straight-spec : {M : Type 1} → statement M
+cadd-straight-spec =
     tie.close
     (tie.spec
     lanes-requires
     lanes-requires-2
-    crosses-requires
     turned-requires
     minus-real-requires
     minus-imaginary-requires

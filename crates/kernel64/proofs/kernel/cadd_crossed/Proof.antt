@@ -1,0 +1,57 @@
+-- `kernel64::kernel::cadd_crossed` meets its contract: the stages make the definition.
+-- Assumes nothing.
+use mathlib.Core.Path.{sym}
+use borrow.Author.Needs.{needs}
+use Rattle.integer.specs.Lane.{wrapped}
+use Rattle.integer.proofs.Word.{pattern-wrapped}
+use Rattle.isa.specs.declared.types.Size.the-variants.{D}
+use Rattle.isa.specs.Register.{bits, bytes}
+use Rattle.isa.specs.Meaning.{caddOf, each}
+use Rattle.isa.proofs.Pair.{sums}
+use Rattle.kernel64.proofs.kernel.cadd_crossed.Statement.{statement}
+use Rattle.kernel64.proofs.kernel.cadd_crossed.Tie as tie
+
+lanes-requires : tie.Need-lanes-requires
+lanes-requires c κs = search needs
+
+lanes-requires-2 : tie.Need-lanes-requires-2
+lanes-requires-2 c κs = search needs
+
+turned-requires : tie.Need-turned-requires
+turned-requires c κs = search needs
+
+minus-real-requires : tie.Need-minus-real-requires
+minus-real-requires c κs = search needs
+
+minus-imaginary-requires : tie.Need-minus-imaginary-requires
+minus-imaginary-requires c κs = search needs
+
+adds-requires : tie.Need-adds-requires
+adds-requires c κs = search needs
+
+bytes-requires : tie.Need-bytes-requires
+bytes-requires c κs = search needs
+
+returns : tie.Need-returns
+unfolding caddOf each bits bytes
+returns c =
+    let i = c .before .before in
+    let k = i .before in
+    let t = k .before in
+    let m = t .before in
+    let x = m .before in
+    sums D (λ v. v) (wrapped 64) (pattern-wrapped 64) (x .before .args .rot) (sym (x .before .pre)) (k .minus-real .ensures) (i .minus-imaginary .ensures)
+    (x .lanes .ensures) (m .lanes2 .ensures) (t .turned .ensures) (c .before .adds .ensures) (c .bytes .ensures)
+
+pub cadd-crossed-spec : {M : Type 1} → statement M
+cadd-crossed-spec =
+    tie.close
+    (tie.spec
+    lanes-requires
+    lanes-requires-2
+    turned-requires
+    minus-real-requires
+    minus-imaginary-requires
+    adds-requires
+    bytes-requires
+    returns)
