@@ -4,4 +4,3 @@ pub mod Put
 pub mod Decoded
 pub mod Named
 pub mod RoundTrip
-pub mod Ran

@@ -1,4 +1,3 @@
-pub mod Run
 pub mod Register
 pub mod List
 pub mod Fields

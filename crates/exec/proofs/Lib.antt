@@ -1,4 +1,2 @@
-pub mod Sources
-pub mod Segments
-pub mod Arms
+pub mod Operation
 pub mod Words

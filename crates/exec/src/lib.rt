@@ -1,5 +1,5 @@
 // Executes operations and runs programs on a lent register file.
-mod kernels;
+mod families;
 mod program;
 mod state;
 mod step;

@@ -1,12 +1,14 @@
 // The run of a program, and the execution of one word.
 ghost use mathlib.Core.Path.{_≡_};
 ghost use mathlib.Core.List.{[], _∷_};
-ghost use Prim.Native.Nat.{_<_, _≤_};
+ghost use Prim.Native.Nat.{_/_, _<_, _≤_};
 ghost use lib.ListN.{length};
 ghost use Rattle.isa.specs.Decode.{decodeOf};
 ghost use Rattle.isa.specs.Number.{endingNumber};
 ghost use Rattle.isa.specs.Run.{start, run as runOf, outcomeOf};
-ghost use Rattle.exec.specs.Step.{Held, steppedOf, fileAfter, refusalOf};
+ghost use Rattle.regfile.specs.Place.{Starts};
+ghost use Rattle.regfile.specs.Sweep.{Held};
+ghost use Rattle.exec.specs.Step.{steppedOf, fileAfter, refusalOf};
 use crate::state::State;
 use crate::state::Stepped;
 use crate::step::step;
@@ -16,6 +18,7 @@ use isa::types::Decoded;
 use isa::types::Ending;
 use isa::types::Ran;
 use regfile::check::check_size;
+use regfile::part::starts;
 
 // The number of document 01.
 pub fn ending_number(e: Ending) -> u8
@@ -43,8 +46,9 @@ fn refusal(d: Decoded) -> Ending
 }
 
 // One word. `run_words` has checked the file and the number of words.
-fn step_word(l: usize, file: &mut [u8], state: State, word: u32) -> Stepped
+fn step_word(l: usize, file: &mut [u8], starts: &[usize; 32], state: State, word: u32) -> Stepped
     requires { ⌜ Held l (now file) ⌝ }
+    requires { ⌜ Starts (l / 8) (now starts) ⌝ }
     requires { ⌜ state .done < 4096 ⌝ }
     ensures { λ r. ⌜ (r ≡ steppedOf (decodeOf word) l (now (file .entry)) state) × (now (file .exit) ≡ fileAfter (decodeOf word) l (now (file .entry))) ⌝ }
 {
@@ -52,7 +56,7 @@ fn step_word(l: usize, file: &mut [u8], state: State, word: u32) -> Stepped
     let Decoded::Operation(op) = decoded else {
         return Stepped::Stopped(refusal(decoded));
     };
-    let clamped = step(l, file, op);
+    let clamped = step(l, file, starts, op);
     Stepped::Next(state.counted(clamped))
 }
 
@@ -62,10 +66,11 @@ fn run_words(l: usize, file: &mut [u8], qc: bool, words: &[u32]) -> Ran
     requires { ⌜ length (now words) ≤ 4096 ⌝ }
     ensures { λ r. ⌜ record { answer = r; file = now (file .exit) } ≡ runOf l (now (words .entry)) (start (now (file .entry)) qc) ⌝ }
 {
+    let starts = starts(l >> 3);
     let mut state = State::new(qc);
     let mut i = 0;
     while i < words.len() {
-        let stepped = step_word(l, file, state, words[i]);
+        let stepped = step_word(l, file, &starts, state, words[i]);
         match stepped {
             Stepped::Next(next) => {
                 state = next;

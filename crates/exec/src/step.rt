@@ -1,157 +1,173 @@
 // One operation on the lent file.
 ghost use mathlib.Core.Path.{_≡_};
-ghost use mathlib.Core.Bool.{true, false};
-ghost use Prim.Native.Nat.{_≤_};
-ghost use lib.ListN.{length};
-ghost use Rattle.isa.specs.Meaning.{step as stepOf, advancedSimd};
-ghost use Rattle.isa.specs.File.{byteAt, fileOf};
-ghost use Rattle.isa.specs.Valid.{Valid};
-ghost use Rattle.exec.specs.Sources.{destOf, firstOf, secondOf};
-ghost use Rattle.exec.specs.Step.{Held, Placed, Within, Segmented, SegmentedFlag, Worked};
-use crate::kernels::element;
-use crate::kernels::segment;
-use crate::kernels::wide;
+ghost use Prim.Native.Nat.{_/_};
+ghost use Rattle.isa.specs.Valid.{Valid, AddValid, MulValid, IndexedValid, ElementValid};
+ghost use Rattle.regfile.specs.Place.{Starts};
+ghost use Rattle.regfile.specs.Sweep.{Held};
+ghost use Rattle.exec.specs.Step.{Worked};
+use crate::families::indexed;
+use crate::families::products;
+use crate::families::sums;
+use isa::types::Add;
+use isa::types::ByElement;
+use isa::types::Mul;
+use isa::types::MulIndexed;
 use isa::types::Op;
-use regfile::part::offset;
-use regfile::segment::read16;
-use regfile::segment::write16;
+use isa::types::Size;
 
-// The destination and the two sources: their numbers, or where they start.
-pub struct Registers {
-    pub d: usize,
-    pub n: usize,
-    pub m: usize,
-}
-
-fn two(d: u32, m: u32) -> Registers
-    ensures { λ r. ⌜ (r .d ≡ d) × (r .n ≡ d) × (r .m ≡ m) ⌝ }
+fn wide(x: u32) -> usize
+    ensures { λ r. ⌜ r ≡ x ⌝ }
 {
-    let first = wide(d);
-    Registers {
-        d: first,
-        n: first,
-        m: wide(m),
-    }
+    x as usize
 }
 
-fn three(d: u32, n: u32, m: u32) -> Registers
-    ensures { λ r. ⌜ (r .d ≡ d) × (r .n ≡ n) × (r .m ≡ m) ⌝ }
-{
-    Registers {
-        d: wide(d),
-        n: wide(n),
-        m: wide(m),
-    }
-}
+// ---- the families: each finds where its registers start. `starts` has it for every register
 
-fn numbers(op: Op) -> Registers
-    ensures { λ r. ⌜ (r .d ≡ destOf op) × (r .n ≡ firstOf op) × (r .m ≡ secondOf op) ⌝ }
-{
-    match op {
-        Op::Cadd(a) => two(a.zdn, a.zm),
-        Op::Sqcadd(a) => two(a.zdn, a.zm),
-        Op::Cmla(a) => three(a.zda, a.zn, a.zm),
-        Op::Sqrdcmlah(a) => three(a.zda, a.zn, a.zm),
-        Op::CmlaIndexed(a) => three(a.zda, a.zn, a.zm),
-        Op::SqrdcmlahIndexed(a) => three(a.zda, a.zn, a.zm),
-        Op::Sqrdmlah(a) => three(a.rd, a.rn, a.rm),
-        Op::Sqrdmlsh(a) => three(a.rd, a.rn, a.rm),
-    }
-}
-
-// Where they start in a file whose registers have w bytes: the length is checked, and the operation is one that a word decoded to.
-fn places(w: usize, op: Op) -> Registers
-    requires { ⌜ w ≤ 256 ⌝ }
-    requires { ⌜ Valid op ⌝ }
-    ensures { λ r. ⌜ Placed w op (r .d) (r .n) (r .m) ⌝ }
-{
-    let r = numbers(op);
-    Registers {
-        d: offset(w, r.d),
-        n: offset(w, r.n),
-        m: offset(w, r.m),
-    }
-}
-
-fn by_element(op: Op) -> bool
-    ensures { λ r. ⌜ r ≡ advancedSimd op ⌝ }
-{
-    match op {
-        Op::Sqrdmlah(_) => true,
-        Op::Sqrdmlsh(_) => true,
-        _ => false,
-    }
-}
-
-// The segments at d, n and m: all are read before one is stored, so registers may coincide.
-fn segment_at(file: &mut [u8], d: usize, n: usize, m: usize, op: Op)
-    requires { ⌜ Within (length (now file)) d n m ⌝ }
-    requires { ⌜ Valid op ⌝ }
-    requires { ⌜ advancedSimd op ≡ false ⌝ }
-    ensures { λ _. ⌜ Segmented op (now (file .entry)) d n m (now (file .exit)) ⌝ }
-{
-    let x = read16(file, d);
-    let y = read16(file, n);
-    let z = read16(file, m);
-    write16(file, d, segment(op, x, y, z));
-}
-
-// The same for an operation by element. Answers whether a lane was clamped.
-fn element_at(file: &mut [u8], d: usize, n: usize, m: usize, op: Op) -> bool
-    requires { ⌜ Within (length (now file)) d n m ⌝ }
-    requires { ⌜ Valid op ⌝ }
-    requires { ⌜ advancedSimd op ≡ true ⌝ }
-    ensures { λ r. ⌜ SegmentedFlag op (now (file .entry)) d n m (now (file .exit)) r ⌝ }
-{
-    let x = read16(file, d);
-    let y = read16(file, n);
-    let z = read16(file, m);
-    let s = element(op, x, y, z);
-    let new = s.bytes;
-    write16(file, d, new);
-    s.clamped
-}
-
-// An SVE2 operation, one segment after the other.
-fn step_segments(l: usize, file: &mut [u8], op: Op)
+fn cadd(l: usize, file: &mut [u8], starts: &[usize; 32], a: Add) -> bool
     requires { ⌜ Held l (now file) ⌝ }
-    requires { ⌜ Valid op ⌝ }
-    requires { ⌜ advancedSimd op ≡ false ⌝ }
-    ensures { λ _. ⌜ now (file .exit) ≡ fileOf l (stepOf op (byteAt l (now (file .entry)))) ⌝ }
+    requires { ⌜ Starts (l / 8) (now starts) ⌝ }
+    requires { ⌜ AddValid a ⌝ }
+    ensures { λ r. ⌜ Worked l (Op.Cadd a) (now (file .entry)) (now (file .exit)) r ⌝ }
 {
-    let w = l >> 3;
-    let r = places(w, op);
-    let d = r.d;
-    let n = r.n;
-    let m = r.m;
-    let mut q = 0;
-    while q < w {
-        segment_at(file, d + q, n + q, m + q, op);
-        q += 16;
+    let size = a.size;
+    let rot = a.rot;
+    let d = starts[wide(a.zdn)];
+    let m = starts[wide(a.zm)];
+    sums(false, size, rot, l, file, d, m);
+    false
+}
+
+fn sqcadd(l: usize, file: &mut [u8], starts: &[usize; 32], a: Add) -> bool
+    requires { ⌜ Held l (now file) ⌝ }
+    requires { ⌜ Starts (l / 8) (now starts) ⌝ }
+    requires { ⌜ AddValid a ⌝ }
+    ensures { λ r. ⌜ Worked l (Op.Sqcadd a) (now (file .entry)) (now (file .exit)) r ⌝ }
+{
+    let size = a.size;
+    let rot = a.rot;
+    let d = starts[wide(a.zdn)];
+    let m = starts[wide(a.zm)];
+    sums(true, size, rot, l, file, d, m);
+    false
+}
+
+fn cmla(l: usize, file: &mut [u8], starts: &[usize; 32], a: Mul) -> bool
+    requires { ⌜ Held l (now file) ⌝ }
+    requires { ⌜ Starts (l / 8) (now starts) ⌝ }
+    requires { ⌜ MulValid a ⌝ }
+    ensures { λ r. ⌜ Worked l (Op.Cmla a) (now (file .entry)) (now (file .exit)) r ⌝ }
+{
+    let size = a.size;
+    let rot = a.rot;
+    let d = starts[wide(a.zda)];
+    let n = starts[wide(a.zn)];
+    let m = starts[wide(a.zm)];
+    products(false, size, rot, l, file, d, n, m);
+    false
+}
+
+fn sqrdcmlah(l: usize, file: &mut [u8], starts: &[usize; 32], a: Mul) -> bool
+    requires { ⌜ Held l (now file) ⌝ }
+    requires { ⌜ Starts (l / 8) (now starts) ⌝ }
+    requires { ⌜ MulValid a ⌝ }
+    ensures { λ r. ⌜ Worked l (Op.Sqrdcmlah a) (now (file .entry)) (now (file .exit)) r ⌝ }
+{
+    let size = a.size;
+    let rot = a.rot;
+    let d = starts[wide(a.zda)];
+    let n = starts[wide(a.zn)];
+    let m = starts[wide(a.zm)];
+    products(true, size, rot, l, file, d, n, m);
+    false
+}
+
+fn cmla_indexed(l: usize, file: &mut [u8], starts: &[usize; 32], a: MulIndexed) -> bool
+    requires { ⌜ Held l (now file) ⌝ }
+    requires { ⌜ Starts (l / 8) (now starts) ⌝ }
+    requires { ⌜ IndexedValid a ⌝ }
+    ensures { λ r. ⌜ Worked l (Op.CmlaIndexed a) (now (file .entry)) (now (file .exit)) r ⌝ }
+{
+    let size = a.size;
+    let rot = a.rot;
+    let d = starts[wide(a.zda)];
+    let n = starts[wide(a.zn)];
+    let m = starts[wide(a.zm)];
+    indexed(false, size, rot, wide(a.index), l, file, d, n, m);
+    false
+}
+
+fn sqrdcmlah_indexed(l: usize, file: &mut [u8], starts: &[usize; 32], a: MulIndexed) -> bool
+    requires { ⌜ Held l (now file) ⌝ }
+    requires { ⌜ Starts (l / 8) (now starts) ⌝ }
+    requires { ⌜ IndexedValid a ⌝ }
+    ensures { λ r. ⌜ Worked l (Op.SqrdcmlahIndexed a) (now (file .entry)) (now (file .exit)) r ⌝ }
+{
+    let size = a.size;
+    let rot = a.rot;
+    let d = starts[wide(a.zda)];
+    let n = starts[wide(a.zn)];
+    let m = starts[wide(a.zm)];
+    indexed(true, size, rot, wide(a.index), l, file, d, n, m);
+    false
+}
+
+// Only H and S have a form by element, and no other size is handed over.
+fn sqrdmlah(l: usize, file: &mut [u8], starts: &[usize; 32], a: ByElement) -> bool
+    requires { ⌜ Held l (now file) ⌝ }
+    requires { ⌜ Starts (l / 8) (now starts) ⌝ }
+    requires { ⌜ ElementValid a ⌝ }
+    ensures { λ r. ⌜ Worked l (Op.Sqrdmlah a) (now (file .entry)) (now (file .exit)) r ⌝ }
+{
+    let size = a.size;
+    let form = a.form;
+    let d = starts[wide(a.rd)];
+    let n = starts[wide(a.rn)];
+    let m = starts[wide(a.rm)];
+    let index = wide(a.index);
+    match size {
+        Size::B => false,
+        Size::H => vector16::element::elements(file, d, n, m, index, form, false),
+        Size::S => vector32::element::elements(file, d, n, m, index, form, false),
+        Size::D => false,
     }
 }
 
-// An operation by element: the first segment. Answers whether a lane was clamped.
-fn step_element(l: usize, file: &mut [u8], op: Op) -> bool
+// The same.
+fn sqrdmlsh(l: usize, file: &mut [u8], starts: &[usize; 32], a: ByElement) -> bool
     requires { ⌜ Held l (now file) ⌝ }
-    requires { ⌜ Valid op ⌝ }
-    requires { ⌜ advancedSimd op ≡ true ⌝ }
-    ensures { λ r. ⌜ Worked l op (now (file .entry)) (now (file .exit)) r ⌝ }
+    requires { ⌜ Starts (l / 8) (now starts) ⌝ }
+    requires { ⌜ ElementValid a ⌝ }
+    ensures { λ r. ⌜ Worked l (Op.Sqrdmlsh a) (now (file .entry)) (now (file .exit)) r ⌝ }
 {
-    let r = places(l >> 3, op);
-    element_at(file, r.d, r.n, r.m, op)
+    let size = a.size;
+    let form = a.form;
+    let d = starts[wide(a.rd)];
+    let n = starts[wide(a.rn)];
+    let m = starts[wide(a.rm)];
+    let index = wide(a.index);
+    match size {
+        Size::B => false,
+        Size::H => vector16::element::elements(file, d, n, m, index, form, true),
+        Size::S => vector32::element::elements(file, d, n, m, index, form, true),
+        Size::D => false,
+    }
 }
 
 // An operation that a word decoded to, on a checked file: `step_word` has both. Answers whether it sets the flag.
-pub fn step(l: usize, file: &mut [u8], op: Op) -> bool
+pub fn step(l: usize, file: &mut [u8], starts: &[usize; 32], op: Op) -> bool
     requires { ⌜ Held l (now file) ⌝ }
+    requires { ⌜ Starts (l / 8) (now starts) ⌝ }
     requires { ⌜ Valid op ⌝ }
     ensures { λ r. ⌜ Worked l op (now (file .entry)) (now (file .exit)) r ⌝ }
 {
-    if by_element(op) {
-        step_element(l, file, op)
-    } else {
-        step_segments(l, file, op);
-        false
+    match op {
+        Op::Cadd(a) => cadd(l, file, starts, a),
+        Op::Sqcadd(a) => sqcadd(l, file, starts, a),
+        Op::Cmla(a) => cmla(l, file, starts, a),
+        Op::Sqrdcmlah(a) => sqrdcmlah(l, file, starts, a),
+        Op::CmlaIndexed(a) => cmla_indexed(l, file, starts, a),
+        Op::SqrdcmlahIndexed(a) => sqrdcmlah_indexed(l, file, starts, a),
+        Op::Sqrdmlah(a) => sqrdmlah(l, file, starts, a),
+        Op::Sqrdmlsh(a) => sqrdmlsh(l, file, starts, a),
     }
 }

@@ -1,19 +1,14 @@
 // Reads a length, a flag, words and registers as text, runs the words, and prints what came of them.
 // docs/execute.md has the format.
 ghost use Prim.Native.Nat.{_≤_};
-
-mod fault;
-mod parse;
-mod part;
-mod put;
-mod report;
-mod scan;
-
 use isa::types::Ran;
 use libc::STDERR_FILENO;
 use libc::STDOUT_FILENO;
-use parse::Parsed;
-use parse::Request;
+use text::fault::put_fault;
+use text::parse::Parsed;
+use text::parse::Request;
+use text::parse::read_text;
+use text::report::put_report;
 
 // The longest text.
 const LONGEST: usize = 65536;
@@ -64,31 +59,33 @@ fn run(request: Request, file: &mut [u8], words: &[u32]) -> Ran {
 fn answer(request: Request, file: &mut [u8], before: &mut [u8], words: &[u32], out: &mut [u8]) {
     copy(file, before);
     let ran = run(request, file, words);
-    let n = report::put_report(out, request, ran, before, file, words);
+    let ending = ran.ending;
+    let number = exec::ending_number(ending);
+    let n = put_report(out, request, number, ran, before, file, words);
     if !write_start(STDOUT_FILENO, out, n) {
         io::write_all(STDERR_FILENO, b"execute: the output could not be written\n");
     }
 }
 
-fn execute(text: &[u8], file: &mut [u8], before: &mut [u8], words: &mut [u32], out: &mut [u8]) {
-    let parsed = parse::read_text(text, file, words);
+fn execute(given: &[u8], file: &mut [u8], before: &mut [u8], words: &mut [u32], out: &mut [u8]) {
+    let parsed = read_text(given, file, words);
     match parsed {
         Parsed::Asked(request) => answer(request, file, before, words, out),
         Parsed::Wrong(fault, line) => {
-            let n = fault::put_fault(out, fault, line);
+            let n = put_fault(out, fault, line);
             write_start(STDERR_FILENO, out, n);
         }
     }
 }
 
 fn read_and_execute(
-    text: &mut [u8],
+    given: &mut [u8],
     file: &mut [u8],
     before: &mut [u8],
     words: &mut [u32],
     out: &mut [u8],
 ) {
-    let filled = input::fill(text);
+    let filled = input::fill(given);
     if filled.failed {
         io::write_all(STDERR_FILENO, b"execute: the input could not be read\n");
         return;
@@ -101,14 +98,14 @@ fn read_and_execute(
         );
         return;
     }
-    execute(&text[0..n], file, before, words, out);
+    execute(&given[0..n], file, before, words, out);
 }
 
 fn main() {
-    let mut text = [0u8; TEXT];
+    let mut given = [0u8; TEXT];
     let mut file = [0u8; FILE];
     let mut before = [0u8; FILE];
     let mut words = [0u32; WORDS];
     let mut out = [0u8; OUT];
-    read_and_execute(&mut text, &mut file, &mut before, &mut words, &mut out);
+    read_and_execute(&mut given, &mut file, &mut before, &mut words, &mut out);
 }

@@ -21,4 +21,5 @@ pub mod Going
 pub mod Order
 pub mod Fits
 pub mod Agnostic
+pub mod Sources
 pub mod Words

@@ -13,3 +13,4 @@ pub mod Cases
 pub mod File
 pub mod Run
 pub mod Claim
+pub mod Sources

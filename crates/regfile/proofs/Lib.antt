@@ -1,3 +1,4 @@
 pub mod Bytes
 pub mod Place
 pub mod Refused
+pub mod Sweep

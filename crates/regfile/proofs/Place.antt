@@ -1,4 +1,4 @@
--- n * w by the bits of n. `appended-even`, `appended-odd`: one bit more. `half-of`: the bits so far. Assumes nothing.
+-- n * w by the bits of n. `appended-even`, `appended-odd`: one bit more. `half-of`: the bits so far. `next-start`: where the next register starts. Assumes nothing.
 use mathlib.Core.Path.{_≡_, sym, ap, _∙_}
 use Prim.Native.Nat.{ℕ, _+_, _*_, _/_, _%_, _≤_}
 use native.Mathlib.Omega.{arith}
@@ -26,3 +26,9 @@ module _ (half w n : ℕ) (h : Half half w n) where
 -- what is made of the leading bits of n, without the last of them
 pub half-of : (w n : ℕ) → Short w n → (bits high r : ℕ) → bits ≤ n → high ≡ bits / 2 → r ≡ high * w → Half r w bits
 half-of w n s bits high r l e m = record { width = s .width; number = omega (arith, s .number); made = m ∙ ap (λ x. x * w) e }
+
+pub next-start : (w i at : ℕ) → at ≡ i * w → at + w ≡ (i + 1) * w
+next-start w i at e = omega (arith, e, split-off)
+  where
+    split-off : (i + 1) * w ≡ i * w + 1 * w
+    split-off = rw add-mul

@@ -1,5 +1,7 @@
 -- What the search for a register's place relies on.
 use mathlib.Core.Path.{_≡_}
+use mathlib.Core.List.{List}
+use lib.ListN.{getD}
 use Prim.Native.Nat.{ℕ, _*_, _/_, _<_, _≤_}
 
 -- a register's bytes are at most 256, and its number is below 32
@@ -12,3 +14,7 @@ pub record Half (half w n : ℕ) : Type 0 where
   pub width : w ≤ 256
   pub number : n < 32
   pub made : half ≡ n / 2 * w
+
+-- where each register starts
+pub record Starts (w : ℕ) (starts : List ℕ) : Type 0 where
+  pub at : (r : ℕ) → r < 32 → getD starts r 0 ≡ r * w

@@ -2,7 +2,7 @@
 ghost use mathlib.Core.Path.{_≡_};
 ghost use Prim.Native.Nat.{_*_, _<_, _≤_};
 ghost use Rattle.isa.specs.File.{registerOf};
-ghost use Rattle.regfile.specs.Place.{Half, Short};
+ghost use Rattle.regfile.specs.Place.{Half, Short, Starts};
 use crate::check::check_register;
 use isa::types::Checked;
 
@@ -25,6 +25,20 @@ pub fn offset(w: usize, n: usize) -> usize
     let c = appended(b, w, n >> 2);
     let d = appended(c, w, n >> 1);
     appended(d, w, n)
+}
+
+// Where each of the 32 registers of w bytes starts. Callers have a checked length.
+pub fn starts(w: usize) -> [usize; 32]
+    requires { ⌜ w ≤ 256 ⌝ }
+    ensures { λ r. ⌜ Starts w r ⌝ }
+{
+    let mut r = [0usize; 32];
+    let mut at = 0;
+    for i in 0..32 {
+        r[i] = at;
+        at += w;
+    }
+    r
 }
 
 // The part of the file for register n, to read and to fill; an empty part on a refusal.

@@ -6,23 +6,27 @@ use native.Mathlib.Omega.{arith}
 use Prim.Native.Nat.{_-_}
 use lib.ListN.{length}
 use Rattle.isa.specs.Run.{start}
+use Rattle.isa.proofs.File.{legal-exact}
 use Rattle.isa.proofs.Going.{Going}
 use Rattle.exec.proofs.Words.{stateOf, words-start, words-on, words-stop, words-end}
 use Rattle.exec.proofs.program.run_words.Statement.{statement}
 use Rattle.exec.proofs.program.run_words.Tie as tie
 
 abbrev Inv-loop : tie.InvT-loop
-Inv-loop l file₀ qc words state₀ i₀ file state i = Going l words (start file₀ qc) (stateOf file state) i
+Inv-loop l file₀ qc words starts state₀ i₀ file state i = Going l words (start file₀ qc) (stateOf file state) i
 
 abbrev μ-loop : tie.MeasureT-loop
-μ-loop l file₀ qc words state₀ i₀ file state i = length words - i
+μ-loop l file₀ qc words starts state₀ i₀ file state i = length words - i
+
+starts-requires : tie.Need-starts-requires Inv-loop μ-loop
+starts-requires c κs = let s = c .before .before in omega (arith, legal-exact (s .args .l) .0 (s .pre .0 .ok) .most)
 
 new-requires : tie.Need-new-requires Inv-loop μ-loop
 new-requires c κs = search needs
 
 loop-holds : tie.Need-loop-holds Inv-loop μ-loop
 loop-holds c =
-    let s = c .before .before .before in
+    let s = c .before .before .before .before in
     let a = s .args in
     words-start (a .l) (a .words .now) (a .file .now) (a .qc) (c .new .result) (s .pre .0 .sized) (c .new .ensures)
 
@@ -34,9 +38,10 @@ shared-slice-read-step-word c = search needs
 
 step-word-requires : tie.Need-step-word-requires Inv-loop μ-loop
 step-word-requires c κs =
-    let h = c .before .before .before in
-    let s = h .before .before .before .before in
-    (record { ok = s .pre .0 .ok; sized = h .loop .inv .sized }, omega (arith, h .loop .inv .counted, h .loop .inv .bound, s .pre .1, c .before .before .loop-test .taken))
+    let h = c .before .before .before .before in
+    let t = h .before .before in
+    let s = t .before .before .before in
+    (record { ok = s .pre .0 .ok; sized = h .loop .inv .sized }, (t .starts .ensures, omega (arith, h .loop .inv .counted, h .loop .inv .bound, s .pre .1, c .before .before .before .loop-test .taken)))
 
 enum-known-stepped : tie.Need-enum-known-stepped Inv-loop μ-loop
 enum-known-stepped c = search needs
@@ -50,19 +55,19 @@ ran-requires c κs = search needs
 same-length : tie.Need-same-length Inv-loop μ-loop
 same-length c =
     let k = c .before .before .before .before .before .before in
-    let h = k .before .before .before .before in
-    let s = h .before .before .before .before in
+    let h = k .before .before .before .before .before in
+    let s = h .before .before .before .before .before in
     let a = s .args in
     k .step-word .kept .1 .0 ∙ h .loop .inv .sized ∙ sym (s .pre .0 .sized)
 
 returns : tie.Need-returns Inv-loop μ-loop
 returns c =
     let k = c .before .before .before .before .before .before in
-    let h = k .before .before .before .before in
-    let s = h .before .before .before .before in
+    let h = k .before .before .before .before .before in
+    let s = h .before .before .before .before .before in
     let a = s .args in
     words-stop (a .l) (a .words .now) (start (a .file .now) (a .qc)) (h .loop .file) (h .loop .state) (h .loop .i) (h .loop .inv)
-    (k .before .before .before .loop-test .taken) (c .before .before .stepped2 .given .0 .0) (k .step-word .result) _ (c .ran .result) (k .step-word .ensures)
+    (k .before .before .before .before .loop-test .taken) (c .before .before .stepped2 .given .0 .0) (k .step-word .result) _ (c .ran .result) (k .step-word .ensures)
     (c .before .before .stepped2 .given .1) (c .ran .ensures)
 
 add-i : tie.Need-add-i Inv-loop μ-loop
@@ -74,11 +79,11 @@ loop-less c = search needs
 loop-again : tie.Need-loop-again Inv-loop μ-loop
 loop-again c =
     let k = c .before .before .before .before .before in
-    let h = k .before .before .before .before in
-    let s = h .before .before .before .before in
+    let h = k .before .before .before .before .before in
+    let s = h .before .before .before .before .before in
     let a = s .args in
     words-on (a .l) (a .words .now) (start (a .file .now) (a .qc)) (h .loop .file) (h .loop .state) (h .loop .i) (h .loop .inv)
-    (k .before .before .before .loop-test .taken) (c .before .stepped .given .0 .0) (k .step-word .result) _ (k .step-word .ensures) (c .before .stepped .given .1)
+    (k .before .before .before .before .loop-test .taken) (c .before .stepped .given .0 .0) (k .step-word .result) _ (k .step-word .ensures) (c .before .stepped .given .1)
 
 ran-requires-2 : tie.Need-ran-requires-2 Inv-loop μ-loop
 ran-requires-2 c κs = search needs
@@ -86,13 +91,13 @@ ran-requires-2 c κs = search needs
 same-length-2 : tie.Need-same-length-2 Inv-loop μ-loop
 same-length-2 c =
     let h = c .before .before in
-    let s = h .before .before .before .before in
+    let s = h .before .before .before .before .before in
     h .loop .inv .sized ∙ sym (s .pre .0 .sized)
 
 returns-2 : tie.Need-returns-2 Inv-loop μ-loop
 returns-2 c =
     let h = c .before .before in
-    let s = h .before .before .before .before in
+    let s = h .before .before .before .before .before in
     let a = s .args in
     words-end (a .l) (a .words .now) (start (a .file .now) (a .qc)) (h .loop .file) (h .loop .state) (h .loop .i) (h .loop .inv) (c .before .loop-test .left) (c .ran2 .result) (c .ran2 .ensures)
 
@@ -102,6 +107,7 @@ run-words-spec =
     (tie.spec
     Inv-loop
     μ-loop
+    starts-requires
     new-requires
     loop-holds
     mul-step-word

@@ -29,7 +29,7 @@ step-requires c κs =
     let o = c .before .before in
     let d = o .before .before in
     let s = d .before .before in
-    (s .pre .0, decoded-valid (s .args .word) (o .decoded .given .0 .0) (sym (d .decode .ensures) ∙ o .decoded .given .1))
+    (s .pre .0, (s .pre .1 .0, decoded-valid (s .args .word) (o .decoded .given .0 .0) (sym (d .decode .ensures) ∙ o .decoded .given .1)))
 
 counted-requires : tie.Need-counted-requires
 counted-requires c κs = search needs

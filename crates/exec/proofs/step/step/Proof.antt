@@ -1,54 +1,141 @@
--- `exec::step::step` meets its contract.
+-- `exec::step::step` meets its contract: each arm is the function of its family.
 -- Assumes nothing.
 use borrow.Author.Needs.{needs}
-use mathlib.Core.Path.{sym, _∙_}
-use Rattle.exec.proofs.Segments.{segments-worked}
+use mathlib.Core.Path.{subst}
+use Rattle.isa.specs.Valid.{Valid}
+use Rattle.exec.proofs.Operation.{worked-as}
 use Rattle.exec.proofs.step.step.Statement.{statement}
 use Rattle.exec.proofs.step.step.Tie as tie
 
-by-element-requires : tie.Need-by-element-requires
-by-element-requires c κs = search needs
+enum-known-op : tie.Need-enum-known-op
+enum-known-op c = search needs
 
-step-element-requires : tie.Need-step-element-requires
-step-element-requires c κs =
-    let t = c .before in
-    let b = t .before in
-    let s = b .before .before in
-    (s .pre .0, (s .pre .1, sym (b .by-element .ensures) ∙ t .if1 .taken))
+cadd-requires : tie.Need-cadd-requires
+cadd-requires c κs = let o = c .before .before in let s = o .before .before .before in (s .pre .0, (s .pre .1 .0, subst Valid (o .op .given .1) (s .pre .1 .1)))
 
-step-segments-requires : tie.Need-step-segments-requires
-step-segments-requires c κs =
-    let t = c .before in
-    let b = t .before in
-    let s = b .before .before in
-    (s .pre .0, (s .pre .1, sym (b .by-element .ensures) ∙ t .if1 .left))
+enum-known-op-2 : tie.Need-enum-known-op-2
+enum-known-op-2 c = search needs
+
+sqcadd-requires : tie.Need-sqcadd-requires
+sqcadd-requires c κs = let o = c .before .before in let s = o .before .before .before in (s .pre .0, (s .pre .1 .0, subst Valid (o .op2 .given .1) (s .pre .1 .1)))
+
+enum-known-op-3 : tie.Need-enum-known-op-3
+enum-known-op-3 c = search needs
+
+cmla-requires : tie.Need-cmla-requires
+cmla-requires c κs = let o = c .before .before in let s = o .before .before .before in (s .pre .0, (s .pre .1 .0, subst Valid (o .op3 .given .1) (s .pre .1 .1)))
+
+enum-known-op-4 : tie.Need-enum-known-op-4
+enum-known-op-4 c = search needs
+
+sqrdcmlah-requires : tie.Need-sqrdcmlah-requires
+sqrdcmlah-requires c κs = let o = c .before .before in let s = o .before .before .before in (s .pre .0, (s .pre .1 .0, subst Valid (o .op4 .given .1) (s .pre .1 .1)))
+
+enum-known-op-5 : tie.Need-enum-known-op-5
+enum-known-op-5 c = search needs
+
+cmla-indexed-requires : tie.Need-cmla-indexed-requires
+cmla-indexed-requires c κs = let o = c .before .before in let s = o .before .before .before in (s .pre .0, (s .pre .1 .0, subst Valid (o .op5 .given .1) (s .pre .1 .1)))
+
+enum-known-op-6 : tie.Need-enum-known-op-6
+enum-known-op-6 c = search needs
+
+sqrdcmlah-indexed-requires : tie.Need-sqrdcmlah-indexed-requires
+sqrdcmlah-indexed-requires c κs = let o = c .before .before in let s = o .before .before .before in (s .pre .0, (s .pre .1 .0, subst Valid (o .op6 .given .1) (s .pre .1 .1)))
+
+enum-known-op-7 : tie.Need-enum-known-op-7
+enum-known-op-7 c = search needs
+
+sqrdmlah-requires : tie.Need-sqrdmlah-requires
+sqrdmlah-requires c κs = let o = c .before .before in let s = o .before .before .before in (s .pre .0, (s .pre .1 .0, subst Valid (o .op7 .given .1) (s .pre .1 .1)))
+
+enum-known-op-8 : tie.Need-enum-known-op-8
+enum-known-op-8 c = search needs
+
+sqrdmlsh-requires : tie.Need-sqrdmlsh-requires
+sqrdmlsh-requires c κs = let o = c .before .before in let s = o .before .before .before in (s .pre .0, (s .pre .1 .0, subst Valid (o .op8 .given .1) (s .pre .1 .1)))
 
 same-length : tie.Need-same-length
 same-length c = search needs
 
 returns : tie.Need-returns
-returns c = search needs
+returns c = let k = c .before .before in let o = k .before .before .before in let a = o .before .before .before .args in worked-as (a .l) (a .file .now) _ _ (o .op .given .1) (k .cadd .ensures)
 
 same-length-2 : tie.Need-same-length-2
 same-length-2 c = search needs
 
 returns-2 : tie.Need-returns-2
-returns-2 c =
-    let g = c .before .before in
-    let t = g .before .before in
-    let b = t .before in
-    let s = b .before .before in
-    let a = s .args in
-    segments-worked (a .l) (a .op) (s .pre .1) (a .file .now) (s .pre .0) (sym (b .by-element .ensures) ∙ t .if1 .left) _ (g .step-segments .ensures)
+returns-2 c = let k = c .before .before in let o = k .before .before .before in let a = o .before .before .before .args in worked-as (a .l) (a .file .now) _ _ (o .op2 .given .1) (k .sqcadd .ensures)
+
+same-length-3 : tie.Need-same-length-3
+same-length-3 c = search needs
+
+returns-3 : tie.Need-returns-3
+returns-3 c = let k = c .before .before in let o = k .before .before .before in let a = o .before .before .before .args in worked-as (a .l) (a .file .now) _ _ (o .op3 .given .1) (k .cmla .ensures)
+
+same-length-4 : tie.Need-same-length-4
+same-length-4 c = search needs
+
+returns-4 : tie.Need-returns-4
+returns-4 c = let k = c .before .before in let o = k .before .before .before in let a = o .before .before .before .args in worked-as (a .l) (a .file .now) _ _ (o .op4 .given .1) (k .sqrdcmlah .ensures)
+
+same-length-5 : tie.Need-same-length-5
+same-length-5 c = search needs
+
+returns-5 : tie.Need-returns-5
+returns-5 c = let k = c .before .before in let o = k .before .before .before in let a = o .before .before .before .args in worked-as (a .l) (a .file .now) _ _ (o .op5 .given .1) (k .cmla-indexed .ensures)
+
+same-length-6 : tie.Need-same-length-6
+same-length-6 c = search needs
+
+returns-6 : tie.Need-returns-6
+returns-6 c = let k = c .before .before in let o = k .before .before .before in let a = o .before .before .before .args in worked-as (a .l) (a .file .now) _ _ (o .op6 .given .1) (k .sqrdcmlah-indexed .ensures)
+
+same-length-7 : tie.Need-same-length-7
+same-length-7 c = search needs
+
+returns-7 : tie.Need-returns-7
+returns-7 c = let k = c .before .before in let o = k .before .before .before in let a = o .before .before .before .args in worked-as (a .l) (a .file .now) _ _ (o .op7 .given .1) (k .sqrdmlah .ensures)
+
+same-length-8 : tie.Need-same-length-8
+same-length-8 c = search needs
+
+returns-8 : tie.Need-returns-8
+returns-8 c = let k = c .before .before in let o = k .before .before .before in let a = o .before .before .before .args in worked-as (a .l) (a .file .now) _ _ (o .op8 .given .1) (k .sqrdmlsh .ensures)
 
 pub step-spec : {M : Type 1} → statement M
 step-spec =
     tie.close
     (tie.spec
-    by-element-requires
-    step-element-requires
-    step-segments-requires
+    enum-known-op
+    cadd-requires
+    enum-known-op-2
+    sqcadd-requires
+    enum-known-op-3
+    cmla-requires
+    enum-known-op-4
+    sqrdcmlah-requires
+    enum-known-op-5
+    cmla-indexed-requires
+    enum-known-op-6
+    sqrdcmlah-indexed-requires
+    enum-known-op-7
+    sqrdmlah-requires
+    enum-known-op-8
+    sqrdmlsh-requires
     same-length
     returns
     same-length-2
-    returns-2)
+    returns-2
+    same-length-3
+    returns-3
+    same-length-4
+    returns-4
+    same-length-5
+    returns-5
+    same-length-6
+    returns-6
+    same-length-7
+    returns-7
+    same-length-8
+    returns-8)

@@ -1,0 +1,144 @@
+-- One operation on the lent file. `found`: its registers by the table of their starts. `swept-worked`: an SVE2 operation.
+-- `touched-worked`: one by element. `turns`: the rotations of CADD and SQCADD. `by-limit`: an index below its limit, as a loop takes it. `swept-at`,
+-- `touched-at`, `worked-as`: what was matched. `not-b`, `not-d`: sizes that are not handed over. Assumes nothing.
+use mathlib.Core.Path.{_≡_, refl, sym, ap, subst, _∙_}
+use Prim.Native.Nat.{ℕ, _+_, _*_, _/_, _%_, _<_, _≤_}
+use native.Mathlib.Omega.{arith}
+use native.Mathlib.Nat.{mul-le-mul-right, mod-eq-of-lt}
+use mathlib.Core.Bool.{Bool, true, false, _||_, false≢true}
+use mathlib.Core.List.{List}
+use lib.ListN.{length, getD}
+use Rattle.isa.specs.declared.types.Size.{Size}
+use Rattle.isa.specs.declared.types.Size.the-variants.{B, D}
+use Rattle.isa.specs.declared.types.Rotation.{Rotation}
+use Rattle.isa.specs.declared.types.Op.{Op}
+use Rattle.isa.specs.Register.{Bytes}
+use Rattle.isa.specs.declared.types.ByElement.{ByElement}
+use Rattle.isa.specs.Meaning.{laneBytes, laneClamps, advancedSimd}
+use Rattle.isa.specs.File.{byteAt}
+use Rattle.isa.specs.Valid.{Valid}
+use Rattle.isa.specs.Encode.{addRotation, halfOrSingle}
+use Rattle.isa.specs.Stage.{crossed}
+use Rattle.isa.specs.Sources.{Rule, destOf, firstOf, secondOf, made, clampsIn}
+use Rattle.isa.proofs.File.{legal-exact}
+use Rattle.isa.proofs.Local.{flag-kept}
+use Rattle.isa.proofs.Progress.{simd-stored}
+use Rattle.isa.proofs.Fits.{valid-fits}
+use Rattle.isa.proofs.Sources.{writes-dest, flag-made, valid-below, or-false}
+use Rattle.regfile.specs.Place.{Starts}
+use Rattle.regfile.specs.Sweep.{Held, Placed, Lying, By, Swept, Within, bytesFrom, Touched}
+use Rattle.regfile.proofs.Sweep.{made-written}
+use Rattle.exec.specs.Step.{Worked}
+
+-- ---- where the registers are
+
+-- an operation's registers start at d, n and m, and lie in the file
+pub record Found (L : ℕ) (f : List ℕ) (op : Op) (d n m : ℕ) : Type 0 where
+  pub placed : Placed (L / 8) op d n m
+  pub lying : Lying L f d n m
+  pub within : Within (length f) d n m
+
+module _ (L : ℕ) (f : List ℕ) (held : Held L f) (starts : List ℕ) (table : Starts (L / 8) starts) where
+  start : (r i : ℕ) → r < 32 → i ≡ r → getD starts i 0 ≡ r * (L / 8)
+  start r i h e = ap (λ k. getD starts k 0) e ∙ table .at r h
+
+  ends : (r at : ℕ) → r < 32 → at ≡ r * (L / 8) → at + L / 8 ≤ 4 * L
+  ends r at h e =
+      let whole = legal-exact L .0 (held .ok) .whole in
+      omega (arith, mul-le-mul-right (L / 8) h, e)
+
+  -- by the table of starts, at three places that are the numbers of its registers
+  pub found : (op : Op) → Valid op → (d n m : ℕ) → d ≡ destOf op → n ≡ firstOf op → m ≡ secondOf op →
+      Found L f op (getD starts d 0) (getD starts n 0) (getD starts m 0)
+  found op valid d n m dest first second =
+      let b = valid-below op valid in
+      let k = legal-exact L .0 (held .ok) in
+      let at-d = start (destOf op) d (b .dest) dest in
+      let at-n = start (firstOf op) n (b .first) first in
+      let at-m = start (secondOf op) m (b .second) second in
+      let end-d = ends (destOf op) _ (b .dest) at-d in
+      let end-n = ends (firstOf op) _ (b .first) at-n in
+      let end-m = ends (secondOf op) _ (b .second) at-m in
+      record {
+        placed = record { dest = at-d; first = at-n; second = at-m };
+        lying = record { held = held; dest = end-d; first = end-n; second = end-m };
+        within = record {
+          dest = omega (arith, end-d, held .sized);
+          first = omega (arith, end-n, held .sized);
+          second = omega (arith, end-m, held .sized);
+        };
+      }
+
+-- ---- what is left
+
+-- the bytes from a register's start on are the register's
+from-start : (L : ℕ) (f : List ℕ) (r at : ℕ) → at ≡ r * (L / 8) → bytesFrom f at ≡ byteAt L f r
+unfolding byteAt
+from-start L f r at e = λ t i. getD f (ap (λ x. x + i) e t) 0
+
+module _ (L : ℕ) (op : Op) (valid : Valid op) (f : List ℕ) (held : Held L f) (d n m : ℕ) (p : Placed (L / 8) op d n m) where
+  pub swept-worked : advancedSimd op ≡ false → (rule : Rule) → ((c a b : Bytes) (i : ℕ) → made op c a b i ≡ rule c a b i) → (after : List ℕ) →
+      Swept L rule f d n m after → Worked L op f after false
+  swept-worked sve rule same after s = record {
+    left = s .left op (record { valid = valid; sve = sve; placed = p; same = same });
+    flag = λ qc. flag-kept op sve (byteAt L f) qc ∙ or-false qc;
+  }
+
+  pub touched-worked : advancedSimd op ≡ true → (after : List ℕ) (clamped : Bool) → Touched (made op) (clampsIn op) f d n m after clamped → Worked L op f after clamped
+  touched-worked simd after clamped t =
+      let dest : d ≡ destOf op * (L / 8) + 16 * 0 = omega (arith, p .dest) in
+      let first : n ≡ firstOf op * (L / 8) + 16 * 0 = omega (arith, p .first) in
+      let second : m ≡ secondOf op * (L / 8) + 16 * 0 = omega (arith, p .second) in
+      record {
+        left =
+            simd-stored L (held .ok) op simd (valid-fits op valid) (destOf op) (writes-dest op) f after (t .sized ∙ held .sized)
+            (λ i h. ap (λ x. getD after x 0) (omega (arith, dest)) ∙ t .inside i h ∙ made-written L op 0 f d n m dest first second i)
+            (λ x h. t .low x (omega (arith, dest)))
+            (λ x h. t .high x (omega (arith, dest)));
+        flag = λ qc. flag-made op (byteAt L f) qc ∙ ap (λ b. qc || b) (sym (t .flag ∙ clamps-first));
+      }
+    where
+      clamps-first : clampsIn op (bytesFrom f d) (bytesFrom f n) (bytesFrom f m) ≡ clampsIn op (byteAt L f (destOf op)) (byteAt L f (firstOf op)) (byteAt L f (secondOf op))
+      clamps-first =
+          let c = from-start L f (destOf op) d (p .dest) in
+          let a = from-start L f (firstOf op) n (p .first) in
+          let b = from-start L f (secondOf op) m (p .second) in
+          λ t. clampsIn op (c t) (a t) (b t)
+
+-- ---- what a valid operation has
+
+-- CADD and SQCADD turn by 90 and 270
+pub turns : (rot : Rotation) → addRotation rot ≡ true → crossed rot ≡ true
+turns Rotation.R0 e = absurd (false≢true e)
+turns Rotation.R90 e = refl
+turns Rotation.R180 e = absurd (false≢true e)
+turns Rotation.R270 e = refl
+
+pub by-limit : (index limit w : ℕ) → index < limit → w ≡ index → w % limit ≡ index
+by-limit index limit w h e = ap (λ k. k % limit) e ∙ mod-eq-of-lt h
+
+-- B and D have no indexed form and no form by element
+pub not-b : {z : Size} → halfOrSingle z ≡ true → z ≡ B → ⊥
+not-b h e = false≢true (subst (λ z. halfOrSingle z ≡ true) e h)
+
+pub not-d : {z : Size} → halfOrSingle z ≡ true → z ≡ D → ⊥
+not-d h e = false≢true (subst (λ z. halfOrSingle z ≡ true) e h)
+
+-- ---- what was matched
+
+-- a rule for what was matched is the rule for it
+pub swept-at : {A : Type 0} (L : ℕ) (rule : A → Rule) {x known : A} (f : List ℕ) (d n m : ℕ) (after : List ℕ) → x ≡ known →
+    Swept L (rule known) f d n m after → Swept L (rule x) f d n m after
+swept-at L rule f d n m after e s = subst (λ x. Swept L (rule x) f d n m after) (sym e) s
+
+-- the same for a form by element: its size, and its index below the limit of that size
+pub touched-at : (a : ByElement) (minus : Bool) (known : Size) (limit w : ℕ) (f : List ℕ) (d n m : ℕ) (after : List ℕ) (r : Bool) →
+    a .size ≡ known → a .index < limit → w ≡ a .index →
+    Touched (laneBytes (a .form) known (w % limit) minus) (laneClamps (a .form) known (w % limit) minus) f d n m after r →
+    Touched (laneBytes (a .form) (a .size) (a .index) minus) (laneClamps (a .form) (a .size) (a .index) minus) f d n m after r
+touched-at a minus known limit w f d n m after r e h same t =
+    subst (λ z. Touched (laneBytes (a .form) z (a .index) minus) (laneClamps (a .form) z (a .index) minus) f d n m after r) (sym e)
+    (subst (λ i. Touched (laneBytes (a .form) known i minus) (laneClamps (a .form) known i minus) f d n m after r) (by-limit (a .index) limit w h same) t)
+
+pub worked-as : (L : ℕ) {op known : Op} (f after : List ℕ) (r : Bool) → op ≡ known → Worked L known f after r → Worked L op f after r
+worked-as L f after r e w = subst (λ o. Worked L o f after r) (sym e) w

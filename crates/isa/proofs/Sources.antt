@@ -1,0 +1,96 @@
+-- An operation by its destination and sources is the operation of the definitions. `written-made`: the bytes it writes. `writes-dest`: the register it
+-- writes. `flag-made`: the flag it sets. `valid-below`: its registers exist. `made-local` and `clamped-local`: it reads 16 bytes of each alone.
+-- Assumes nothing.
+use mathlib.Core.Path.{_≡_, refl}
+use Prim.Native.Nat.{ℕ, _<_}
+use mathlib.Core.Bool.{Bool, true, false, _||_}
+use lib.Dec.{eqb}
+use Rattle.isa.specs.Register.{Bytes, Regs}
+use Rattle.isa.specs.declared.types.Op.{Op}
+use Rattle.isa.specs.declared.types.Op.the-variants.{Cadd, Sqcadd, Cmla, Sqrdcmlah, CmlaIndexed, SqrdcmlahIndexed, Sqrdmlah, Sqrdmlsh}
+use Rattle.isa.specs.Meaning.{own, indexed, writes, written, flagAfter}
+use Rattle.isa.specs.Valid.{Valid}
+use Rattle.isa.proofs.Local.{Near, Fits, own-small, indexed-small, pair-local, lane-local, clamps-local}
+use Rattle.isa.specs.Sources.{destOf, firstOf, secondOf, made, clampsIn}
+
+pub written-made : (op : Op) (regs : Regs) (r : ℕ) → written op regs r ≡ made op (regs (destOf op)) (regs (firstOf op)) (regs (secondOf op))
+unfolding written made destOf firstOf secondOf
+written-made (Cadd o) regs r = refl
+written-made (Sqcadd o) regs r = refl
+written-made (Cmla o) regs r = refl
+written-made (Sqrdcmlah o) regs r = refl
+written-made (CmlaIndexed o) regs r = refl
+written-made (SqrdcmlahIndexed o) regs r = refl
+written-made (Sqrdmlah o) regs r = refl
+written-made (Sqrdmlsh o) regs r = refl
+
+pub writes-dest : (op : Op) (r : ℕ) → writes op r ≡ eqb r (destOf op)
+unfolding writes destOf
+writes-dest (Cadd o) r = refl
+writes-dest (Sqcadd o) r = refl
+writes-dest (Cmla o) r = refl
+writes-dest (Sqrdcmlah o) r = refl
+writes-dest (CmlaIndexed o) r = refl
+writes-dest (SqrdcmlahIndexed o) r = refl
+writes-dest (Sqrdmlah o) r = refl
+writes-dest (Sqrdmlsh o) r = refl
+
+pub or-false : (b : Bool) → b ≡ (b || false)
+or-false true = refl
+or-false false = refl
+
+pub flag-made : (op : Op) (regs : Regs) (flag : Bool) →
+    flagAfter op regs flag ≡ (flag || clampsIn op (regs (destOf op)) (regs (firstOf op)) (regs (secondOf op)))
+unfolding flagAfter clampsIn destOf firstOf secondOf
+flag-made (Cadd o) regs flag = or-false flag
+flag-made (Sqcadd o) regs flag = or-false flag
+flag-made (Cmla o) regs flag = or-false flag
+flag-made (Sqrdcmlah o) regs flag = or-false flag
+flag-made (CmlaIndexed o) regs flag = or-false flag
+flag-made (SqrdcmlahIndexed o) regs flag = or-false flag
+flag-made (Sqrdmlah o) regs flag = refl
+flag-made (Sqrdmlsh o) regs flag = refl
+
+pub record Below (op : Op) : Type 0 where
+  pub dest : destOf op < 32
+  pub first : firstOf op < 32
+  pub second : secondOf op < 32
+
+pub valid-below : (op : Op) → Valid op → Below op
+unfolding destOf firstOf secondOf
+valid-below (Cadd o) v = record { dest = v .zdn; first = v .zdn; second = v .zm }
+valid-below (Sqcadd o) v = record { dest = v .zdn; first = v .zdn; second = v .zm }
+valid-below (Cmla o) v = record { dest = v .zda; first = v .zn; second = v .zm }
+valid-below (Sqrdcmlah o) v = record { dest = v .zda; first = v .zn; second = v .zm }
+valid-below (CmlaIndexed o) v = record { dest = v .zda; first = v .zn; second = v .zm }
+valid-below (SqrdcmlahIndexed o) v = record { dest = v .zda; first = v .zn; second = v .zm }
+valid-below (Sqrdmlah o) v = record { dest = v .rd; first = v .rn; second = v .rm }
+valid-below (Sqrdmlsh o) v = record { dest = v .rd; first = v .rn; second = v .rm }
+
+-- ---- locality
+
+-- three sources with the same first 16 bytes
+module _ (c₁ n₁ m₁ c₂ n₂ m₂ : Bytes) (c : Near c₁ c₂) (n : Near n₁ n₂) (m : Near m₁ m₂) where
+  pub made-local : (op : Op) → Fits op → (i : ℕ) → i < 16 → made op c₁ n₁ m₁ i ≡ made op c₂ n₂ m₂ i
+  unfolding made Fits
+  made-local (Cadd o) fits = pair-local (o .size) _ _ _ _ _ _ c c m own (own-small (o .size)) _
+  made-local (Sqcadd o) fits = pair-local (o .size) _ _ _ _ _ _ c c m own (own-small (o .size)) _
+  made-local (Cmla o) fits = pair-local (o .size) _ _ _ _ _ _ c n m own (own-small (o .size)) _
+  made-local (Sqrdcmlah o) fits = pair-local (o .size) _ _ _ _ _ _ c n m own (own-small (o .size)) _
+  made-local (CmlaIndexed o) fits =
+      pair-local (o .size) _ _ _ _ _ _ c n m (indexed (o .size) (o .index)) (indexed-small (o .size) (o .index) fits) _
+  made-local (SqrdcmlahIndexed o) fits =
+      pair-local (o .size) _ _ _ _ _ _ c n m (indexed (o .size) (o .index)) (indexed-small (o .size) (o .index) fits) _
+  made-local (Sqrdmlah o) fits = lane-local (o .size) _ _ _ _ _ _ c n m (o .form) (o .index) fits _
+  made-local (Sqrdmlsh o) fits = lane-local (o .size) _ _ _ _ _ _ c n m (o .form) (o .index) fits _
+
+  pub clamped-local : (op : Op) → Fits op → clampsIn op c₁ n₁ m₁ ≡ clampsIn op c₂ n₂ m₂
+  unfolding clampsIn Fits
+  clamped-local (Cadd o) fits = refl
+  clamped-local (Sqcadd o) fits = refl
+  clamped-local (Cmla o) fits = refl
+  clamped-local (Sqrdcmlah o) fits = refl
+  clamped-local (CmlaIndexed o) fits = refl
+  clamped-local (SqrdcmlahIndexed o) fits = refl
+  clamped-local (Sqrdmlah o) fits = clamps-local (o .size) _ _ _ _ _ _ c n m (o .form) (o .index) fits _
+  clamped-local (Sqrdmlsh o) fits = clamps-local (o .size) _ _ _ _ _ _ c n m (o .form) (o .index) fits _

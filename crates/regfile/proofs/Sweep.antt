@@ -1,0 +1,146 @@
+-- Operations on the lent file. `sweep-starts`, `sweep-on`, `sweep-ends`: the loop over the segments of a register, for a rule. `sweep-room`:
+-- its segments lie in the file, which is short. `touched`: the first segment of an operation by element. Assumes nothing.
+use mathlib.Core.Path.{_≡_, refl, sym, ap, _∙_}
+use Prim.Native.Nat.{ℕ, _+_, _*_, _/_, _%_, _<_, _≤_}
+use native.Mathlib.Omega.{arith}
+use mathlib.Core.Bool.{Bool}
+use mathlib.Core.List.{List}
+use lib.ListN.{length, getD}
+use Rattle.isa.specs.declared.types.Size.{Size}
+use Rattle.isa.specs.declared.types.Form.{Form}
+use Rattle.isa.specs.Register.{pairs, window, segment}
+use Rattle.isa.specs.declared.types.Op.{Op}
+use Rattle.isa.specs.Meaning.{written, laneBytes, laneClamps}
+use Rattle.isa.specs.File.{byteAt}
+use Rattle.isa.specs.Segment.{bytesOf, Elements}
+use Rattle.isa.specs.Sources.{Rule, destOf, firstOf, secondOf, made}
+use Rattle.isa.proofs.File.{legal-exact}
+use Rattle.isa.proofs.Local.{Near, lane-local, clamps-local}
+use Rattle.isa.proofs.Progress.{progress, progress-start, progress-on, progress-end}
+use Rattle.isa.proofs.Fits.{valid-fits}
+use Rattle.isa.proofs.Sources.{written-made, writes-dest, valid-below, made-local}
+use Rattle.regfile.specs.Bytes.{Loaded, Stored}
+use Rattle.regfile.specs.Sweep.{Held, Placed, Lying, By, Swept, bytesFrom, Touched}
+
+-- what is loaded is near the bytes from its place on
+pub near : (file : List ℕ) (at : ℕ) (x : List ℕ) → Loaded file at 16 x → Near (bytesOf x) (bytesFrom file at)
+unfolding Near
+near file at x l i h = l .read i h
+
+-- ---- segment k of the registers, in the file
+
+-- the bytes from a place on are those of the register's segment
+from-segment : (L k : ℕ) (g : List ℕ) (r at : ℕ) → at ≡ r * (L / 8) + 16 * k → bytesFrom g at ≡ segment k (byteAt L g) r
+unfolding segment window byteAt
+from-segment L k g r at e = λ t i. getD g (place i t) 0
+  where
+    place : (i : ℕ) → at + i ≡ r * (L / 8) + (16 * k + i)
+    place i = omega (arith, e)
+
+-- what an operation makes of segments of the file is what it writes there
+pub made-written : (L : ℕ) (op : Op) (k : ℕ) (g : List ℕ) (d n m : ℕ) →
+    d ≡ destOf op * (L / 8) + 16 * k → n ≡ firstOf op * (L / 8) + 16 * k → m ≡ secondOf op * (L / 8) + 16 * k →
+    (i : ℕ) → made op (bytesFrom g d) (bytesFrom g n) (bytesFrom g m) i ≡ written op (segment k (byteAt L g)) (destOf op) i
+made-written L op k g d n m dest first second i =
+    let c = from-segment L k g (destOf op) d dest in
+    let a = from-segment L k g (firstOf op) n first in
+    let b = from-segment L k g (secondOf op) m second in
+    (λ t. made op (c t) (a t) (b t) i) ∙ sym (ap (λ f. f i) (written-made op (segment k (byteAt L g)) (destOf op)))
+
+-- ---- the loop over the segments
+
+-- three segments of a short list
+pub record Room (size d n m : ℕ) : Type 0 where
+  pub dest : d + 16 ≤ size
+  pub first : n + 16 ≤ size
+  pub second : m + 16 ≤ size
+  pub short : size ≤ 8192
+
+-- the segments before byte q have been worked
+pub record Sweeping (L : ℕ) (rule : Rule) (d n m : ℕ) (f g : List ℕ) (q : ℕ) : Type 0 where
+  pub aligned : q % 16 ≡ 0
+  pub bound : q ≤ L / 8
+  pub sized : length g ≡ length f
+  pub so-far : (op : Op) → By L rule d n m op → g ≡ progress L (q / 16) op f
+
+module _ (L : ℕ) (rule : Rule) (d n m : ℕ) (f : List ℕ) (lying : Lying L f d n m) where
+  held : Held L f
+  held = lying .held
+
+  pub sweep-starts : Sweeping L rule d n m f f 0
+  sweep-starts = record {
+    aligned = refl;
+    bound = omega arith;
+    sized = refl;
+    so-far = λ op w. progress-start L (held .ok) op f (held .sized);
+  }
+
+  module _ (g : List ℕ) (q : ℕ) (i : Sweeping L rule d n m f g q) where
+    pub sweep-ends : L / 8 ≤ q → Swept L rule f d n m g
+    sweep-ends h =
+        let whole = legal-exact L .0 (held .ok) .whole in
+        let last : q / 16 ≡ L / 128 = omega (arith, i .bound) in
+        record { left = λ op w. i .so-far op w ∙ ap (λ k. progress L k op f) last ∙ progress-end L (held .ok) op f (held .sized) }
+
+    module _ (more : q < L / 8) where
+      step-within : q + 16 ≤ L / 8
+      step-within = let whole = legal-exact L .0 (held .ok) .whole in omega (arith, i .aligned)
+
+      pub sweep-room : Room (length g) (d + q) (n + q) (m + q)
+      sweep-room =
+          let most = legal-exact L .0 (held .ok) .most in
+          let size : length g ≡ 4 * L = i .sized ∙ held .sized in
+          record {
+            dest = omega (arith, lying .dest, step-within);
+            first = omega (arith, lying .first, step-within);
+            second = omega (arith, lying .second, step-within);
+            short = omega arith;
+          }
+
+      pub sweep-on : (x y z new after : List ℕ) → Loaded g (d + q) 16 x → Loaded g (n + q) 16 y → Loaded g (m + q) 16 z →
+          ((j : ℕ) → j < 16 → bytesOf new j ≡ rule (bytesOf x) (bytesOf y) (bytesOf z) j) → Stored g (d + q) 16 new after →
+          Sweeping L rule d n m f after (q + 16)
+      sweep-on x y z new after at-d at-n at-m result stored = record {
+        aligned = omega (arith, i .aligned);
+        bound = step-within;
+        sized = stored .size ∙ i .sized;
+        so-far = on;
+      }
+        where
+          on : (op : Op) → By L rule d n m op → after ≡ progress L ((q + 16) / 16) op f
+          on op w =
+              let whole = legal-exact L .0 (held .ok) .whole in
+              let at-q : 16 * (q / 16) ≡ q = omega (arith, i .aligned) in
+              let inner : q / 16 < L / 128 = omega (arith, i .aligned) in
+              let next : q / 16 + 1 ≡ (q + 16) / 16 = omega arith in
+              let dest : d + q ≡ destOf op * (L / 8) + 16 * (q / 16) = omega (arith, w .placed .dest, at-q) in
+              let first : n + q ≡ firstOf op * (L / 8) + 16 * (q / 16) = omega (arith, w .placed .first, at-q) in
+              let second : m + q ≡ secondOf op * (L / 8) + 16 * (q / 16) = omega (arith, w .placed .second, at-q) in
+              let fits = valid-fits op (w .valid) in
+              let inside : (j : ℕ) → j < 16 → getD after (destOf op * (L / 8) + 16 * (q / 16) + j) 0 ≡ written op (segment (q / 16) (byteAt L g)) (destOf op) j =
+              λ j h. ap (λ x. getD after x 0) (omega (arith, dest)) ∙ stored .inside j h ∙ result j h ∙ sym (w .same (bytesOf x) (bytesOf y) (bytesOf z) j)
+              ∙ made-local _ _ _ _ _ _ (near g (d + q) x at-d) (near g (n + q) y at-n) (near g (m + q) z at-m) op fits j h
+              ∙ made-written L op (q / 16) g (d + q) (n + q) (m + q) dest first second j in
+              progress-on L (held .ok) op f (held .sized) (q / 16) inner fits (w .sve) (destOf op) (writes-dest op) g after (i .so-far op w)
+              (valid-below op (w .valid) .dest) (stored .size ∙ i .sized ∙ held .sized) inside
+              (λ x h. stored .low x (omega (arith, dest)))
+              (λ x h. stored .high x (omega (arith, dest)))
+              ∙ ap (λ k. progress L k op f) next
+
+-- ---- the first segment
+
+-- what a kernel by element makes of three segments that are loaded, stored
+pub touched : (f : Form) (z : Size) (index : ℕ) (minus : Bool) → index < 2 * pairs z → (file : List ℕ) (d n m : ℕ) (x y w new after : List ℕ) (any : Bool) →
+    Loaded file d 16 x → Loaded file n 16 y → Loaded file m 16 w → Elements f z index minus new any x y w → Stored file d 16 new after →
+    Touched (laneBytes f z index minus) (laneClamps f z index minus) file d n m after any
+touched f z index minus small file d n m x y w new after any at-d at-n at-m made stored =
+    let c = near file d x at-d in
+    let a = near file n y at-n in
+    let b = near file m w at-m in
+    record {
+      sized = stored .size;
+      inside = λ j h. stored .inside j h ∙ made .at j h ∙ lane-local z _ _ _ _ _ _ c a b f index small minus j h;
+      low = stored .low;
+      high = stored .high;
+      flag = made .flag ∙ clamps-local z _ _ _ _ _ _ c a b f index small minus;
+    }

@@ -1,0 +1,26 @@
+// SQCADD on whole registers.
+ghost use mathlib.Core.Path.{_≡_};
+ghost use mathlib.Core.Bool.{true};
+ghost use Rattle.isa.specs.Sources.{addRule};
+ghost use Rattle.isa.specs.Stage.{crossed};
+ghost use Rattle.regfile.specs.Sweep.{Lying, Swept};
+use isa::types::Rotation;
+use isa::types::Size;
+use regfile::segment::read16;
+use regfile::segment::write16;
+
+// SQCADD by 90 or 270.
+pub fn sqcadd(l: usize, file: &mut [u8], d: usize, m: usize, rot: Rotation)
+    requires { ⌜ Lying l (now file) d d m ⌝ }
+    requires { ⌜ crossed rot ≡ true ⌝ }
+    ensures { λ _. ⌜ Swept l (addRule true Size.H rot) (now (file .entry)) d d m (now (file .exit)) ⌝ }
+{
+    let w = l >> 3;
+    let mut q = 0;
+    while q < w {
+        let x = read16(file, d + q);
+        let z = read16(file, m + q);
+        write16(file, d + q, kernel16::kernel::sqcadd_crossed(x, z, rot));
+        q += 16;
+    }
+}

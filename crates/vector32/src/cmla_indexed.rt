@@ -1,0 +1,90 @@
+// CMLA indexed on whole registers.
+ghost use mathlib.Core.Path.{_≡_};
+ghost use mathlib.Core.Bool.{true, false};
+ghost use Prim.Native.Nat.{_%_};
+ghost use Rattle.isa.specs.Sources.{indexedRule};
+ghost use Rattle.isa.specs.Stage.{crossed};
+ghost use Rattle.regfile.specs.Sweep.{Lying, Swept};
+use common::rotation::crosses;
+use isa::types::Rotation;
+use isa::types::Size;
+use regfile::segment::read16;
+use regfile::segment::write16;
+
+// CMLA indexed by 0 or 180.
+fn cmla_indexed_straight(
+    l: usize,
+    file: &mut [u8],
+    d: usize,
+    n: usize,
+    m: usize,
+    index: usize,
+    rot: Rotation,
+)
+    requires { ⌜ Lying l (now file) d n m ⌝ }
+    requires { ⌜ crossed rot ≡ false ⌝ }
+    ensures { λ _. ⌜ Swept l (indexedRule false Size.S (index % 2) rot) (now (file .entry)) d n m (now (file .exit)) ⌝ }
+{
+    let w = l >> 3;
+    let mut q = 0;
+    while q < w {
+        let x = read16(file, d + q);
+        let y = read16(file, n + q);
+        let z = read16(file, m + q);
+        write16(
+            file,
+            d + q,
+            kernel32::indexed::cmla_straight(x, y, z, index, rot),
+        );
+        q += 16;
+    }
+}
+
+// CMLA indexed by 90 or 270.
+fn cmla_indexed_crossed(
+    l: usize,
+    file: &mut [u8],
+    d: usize,
+    n: usize,
+    m: usize,
+    index: usize,
+    rot: Rotation,
+)
+    requires { ⌜ Lying l (now file) d n m ⌝ }
+    requires { ⌜ crossed rot ≡ true ⌝ }
+    ensures { λ _. ⌜ Swept l (indexedRule false Size.S (index % 2) rot) (now (file .entry)) d n m (now (file .exit)) ⌝ }
+{
+    let w = l >> 3;
+    let mut q = 0;
+    while q < w {
+        let x = read16(file, d + q);
+        let y = read16(file, n + q);
+        let z = read16(file, m + q);
+        write16(
+            file,
+            d + q,
+            kernel32::indexed::cmla_crossed(x, y, z, index, rot),
+        );
+        q += 16;
+    }
+}
+
+// CMLA indexed. The index is taken modulo the 2 pairs of a segment.
+pub fn cmla_indexed(
+    l: usize,
+    file: &mut [u8],
+    d: usize,
+    n: usize,
+    m: usize,
+    index: usize,
+    rot: Rotation,
+)
+    requires { ⌜ Lying l (now file) d n m ⌝ }
+    ensures { λ _. ⌜ Swept l (indexedRule false Size.S (index % 2) rot) (now (file .entry)) d n m (now (file .exit)) ⌝ }
+{
+    if crosses(rot) {
+        cmla_indexed_crossed(l, file, d, n, m, index, rot)
+    } else {
+        cmla_indexed_straight(l, file, d, n, m, index, rot)
+    }
+}

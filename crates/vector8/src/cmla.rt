@@ -1,0 +1,57 @@
+// CMLA on whole registers.
+ghost use mathlib.Core.Path.{_≡_};
+ghost use mathlib.Core.Bool.{true, false};
+ghost use Rattle.isa.specs.Sources.{mulRule};
+ghost use Rattle.isa.specs.Stage.{crossed};
+ghost use Rattle.regfile.specs.Sweep.{Lying, Swept};
+use common::rotation::crosses;
+use isa::types::Rotation;
+use isa::types::Size;
+use regfile::segment::read16;
+use regfile::segment::write16;
+
+// CMLA by 0 or 180.
+fn cmla_straight(l: usize, file: &mut [u8], d: usize, n: usize, m: usize, rot: Rotation)
+    requires { ⌜ Lying l (now file) d n m ⌝ }
+    requires { ⌜ crossed rot ≡ false ⌝ }
+    ensures { λ _. ⌜ Swept l (mulRule false Size.B rot) (now (file .entry)) d n m (now (file .exit)) ⌝ }
+{
+    let w = l >> 3;
+    let mut q = 0;
+    while q < w {
+        let x = read16(file, d + q);
+        let y = read16(file, n + q);
+        let z = read16(file, m + q);
+        write16(file, d + q, kernel8::kernel::cmla_straight(x, y, z, rot));
+        q += 16;
+    }
+}
+
+// CMLA by 90 or 270.
+fn cmla_crossed(l: usize, file: &mut [u8], d: usize, n: usize, m: usize, rot: Rotation)
+    requires { ⌜ Lying l (now file) d n m ⌝ }
+    requires { ⌜ crossed rot ≡ true ⌝ }
+    ensures { λ _. ⌜ Swept l (mulRule false Size.B rot) (now (file .entry)) d n m (now (file .exit)) ⌝ }
+{
+    let w = l >> 3;
+    let mut q = 0;
+    while q < w {
+        let x = read16(file, d + q);
+        let y = read16(file, n + q);
+        let z = read16(file, m + q);
+        write16(file, d + q, kernel8::kernel::cmla_crossed(x, y, z, rot));
+        q += 16;
+    }
+}
+
+// CMLA.
+pub fn cmla(l: usize, file: &mut [u8], d: usize, n: usize, m: usize, rot: Rotation)
+    requires { ⌜ Lying l (now file) d n m ⌝ }
+    ensures { λ _. ⌜ Swept l (mulRule false Size.B rot) (now (file .entry)) d n m (now (file .exit)) ⌝ }
+{
+    if crosses(rot) {
+        cmla_crossed(l, file, d, n, m, rot)
+    } else {
+        cmla_straight(l, file, d, n, m, rot)
+    }
+}
