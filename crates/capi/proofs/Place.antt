@@ -5,26 +5,26 @@ use native.Mathlib.Nat.{mul-le-mul}
 use native.Mathlib.Omega.{arith}
 use mathlib.Core.List.{List, []}
 use lib.ListN.{length, take, drop}
-use Rattle.isa.specs.declared.types.Checked.{Checked}
+use Rattle.isa.specs.declared.types.Asked.{Asked}
 use Rattle.isa.specs.File.{registerCheck, registerOf, partIf}
-use Rattle.isa.specs.Number.{checkedNumber}
+use Rattle.isa.specs.Number.{askedNumber}
 use Rattle.isa.proofs.FileChecks.{register-ends}
-use Rattle.capi.specs.Register.{Place, partNumber, packedCheck, registerCall}
+use Rattle.capi.specs.Register.{Place, partNumber, packedAsked, registerCall}
 
-refused-number : (k : Checked) (part : ℕ) → (k ≡ Checked.Passed → ⊥) → checkedNumber k ≡ packedCheck k part
-refused-number Checked.Passed part ne = absurd (ne refl)
-refused-number Checked.BadLength part ne = refl
-refused-number Checked.BadSize part ne = refl
-refused-number Checked.NoRegister part ne = refl
+refused-number : (k : Asked) (part : ℕ) → (k ≡ Asked.Found → ⊥) → askedNumber k ≡ packedAsked k part
+refused-number Asked.Found part ne = absurd (ne refl)
+refused-number Asked.BadLength part ne = refl
+refused-number Asked.BadSize part ne = refl
+refused-number Asked.NoRegister part ne = refl
 
 module _ (L size n : ℕ) where
-  pub register-refused : {k : Checked} → k ≡ registerCheck L size n → (k ≡ Checked.Passed → ⊥) → checkedNumber k ≡ registerCall L size n
+  pub register-refused : {k : Asked} → k ≡ registerCheck L size n → (k ≡ Asked.Found → ⊥) → askedNumber k ≡ registerCall L size n
   unfolding registerCall
-  register-refused {k} e ne = refused-number k (partNumber (n * (L / 8)) (L / 8)) ne ∙ ap (λ (x : Checked). packedCheck x (partNumber (n * (L / 8)) (L / 8))) e
+  register-refused {k} e ne = refused-number k (partNumber (n * (L / 8)) (L / 8)) ne ∙ ap (λ (x : Asked). packedAsked x (partNumber (n * (L / 8)) (L / 8))) e
 
-  module _ (e : registerCheck L size n ≡ Checked.Passed) where
+  module _ (e : registerCheck L size n ≡ Asked.Found) where
     pub register-passed : partNumber (n * (L / 8)) (L / 8) ≡ registerCall L size n
-    unfolding registerCall checkedNumber
+    unfolding registerCall askedNumber
     register-passed = rw e (omega arith)
 
     pub register-place : Place (n * (L / 8)) (L / 8)
@@ -51,17 +51,17 @@ module _ (L : ℕ) (file : List ℕ) (n : ℕ) where
   abbrev cut : ℕ → List ℕ
   cut answer = take (answer / 0x100_0000_0000) (drop (answer / 0x1_0000 % 0x100_0000) file)
 
-  cut-checked : (k : Checked) → registerCheck L (length file) n ≡ k → registerOf L file n ≡ cut (registerCall L (length file) n)
-  unfolding registerOf registerCall checkedNumber
-  cut-checked Checked.Passed e =
+  cut-checked : (k : Asked) → registerCheck L (length file) n ≡ k → registerOf L file n ≡ cut (registerCall L (length file) n)
+  unfolding registerOf registerCall askedNumber
+  cut-checked Asked.Found e =
       let p = register-place L (length file) n e in
       rw e
       (ap (λ (l : ℕ). take l (drop (n * (L / 8)) file)) (sym (part-length (n * (L / 8)) (L / 8) p))
       ∙ ap (λ (s : ℕ). take (partNumber (n * (L / 8)) (L / 8) / 0x100_0000_0000) (drop s file)) (sym (part-start (n * (L / 8)) (L / 8) p))
       ∙ ap cut (zero-plus (partNumber (n * (L / 8)) (L / 8))))
-  cut-checked Checked.BadLength e = rw e
-  cut-checked Checked.BadSize e = rw e
-  cut-checked Checked.NoRegister e = rw e
+  cut-checked Asked.BadLength e = rw e
+  cut-checked Asked.BadSize e = rw e
+  cut-checked Asked.NoRegister e = rw e
 
   pub register-cut : registerOf L file n ≡ cut (registerCall L (length file) n)
   register-cut = cut-checked (registerCheck L (length file) n) refl

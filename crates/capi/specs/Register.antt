@@ -1,8 +1,8 @@
 -- What `kob_register` answers.
 use Prim.Native.Nat.{ℕ, _+_, _*_, _/_, _<_}
 use Rattle.isa.specs.File.{registerCheck}
-use Rattle.isa.specs.Number.{checkedNumber}
-use Rattle.isa.specs.declared.types.Checked.{Checked}
+use Rattle.isa.specs.Number.{askedNumber}
+use Rattle.isa.specs.declared.types.Asked.{Asked}
 
 -- the start in bits 16 to 39, the length in bits 40 to 63
 unfoldable pub partNumber : ℕ → ℕ → ℕ
@@ -14,12 +14,12 @@ pub record Place (start length : ℕ) : Type 0 where
   pub length-fits : length < 0x100_0000
 
 -- the number in bits 0 to 7; start and length are 0 on a refusal
-abbrev pub packedCheck : Checked → ℕ → ℕ
-packedCheck Checked.Passed part = checkedNumber Checked.Passed + part
-packedCheck Checked.BadLength part = checkedNumber Checked.BadLength
-packedCheck Checked.BadSize part = checkedNumber Checked.BadSize
-packedCheck Checked.NoRegister part = checkedNumber Checked.NoRegister
+abbrev pub packedAsked : Asked → ℕ → ℕ
+packedAsked Asked.Found part = askedNumber Asked.Found + part
+packedAsked Asked.BadLength part = askedNumber Asked.BadLength
+packedAsked Asked.BadSize part = askedNumber Asked.BadSize
+packedAsked Asked.NoRegister part = askedNumber Asked.NoRegister
 
 -- register n has L/8 bytes and stands behind the n registers before it
 unfoldable pub registerCall : ℕ → ℕ → ℕ → ℕ
-registerCall L size n = packedCheck (registerCheck L size n) (partNumber (n * (L / 8)) (L / 8))
+registerCall L size n = packedAsked (registerCheck L size n) (partNumber (n * (L / 8)) (L / 8))

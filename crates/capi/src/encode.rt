@@ -255,8 +255,8 @@ fn packed_written(w: Written) -> u64
         Written::Word(word) => (word as u64) << 32,
         Written::NoSize => 7,
         Written::NoRotation => 8,
-        Written::NoRegister => 9,
-        Written::NoIndex => 10,
+        Written::RegisterLimit => 9,
+        Written::IndexLimit => 10,
     }
 }
 

@@ -1,12 +1,12 @@
 // The listing of a whole buffer.
 ghost use mathlib.Core.Path.{_≡_};
-ghost use Rattle.capi.specs.List.{listedNumber, listCall};
-use listing::Listed;
+ghost use Rattle.capi.specs.List.{listedPacked, listCall};
+use isa::types::Listed;
 use listing::list_part;
 
 // The length of the text, or all ones where there was no room.
-fn listed_number(listed: Listed) -> u64
-    ensures { λ r. ⌜ r ≡ listedNumber listed ⌝ }
+fn packed_listing(listed: Listed) -> u64
+    ensures { λ r. ⌜ r ≡ listedPacked listed ⌝ }
 {
     match listed {
         Listed::Text(part) => part.length as u64,
@@ -19,5 +19,5 @@ fn listed_number(listed: Listed) -> u64
 pub extern "C" fn kob_list(bytes: &[u8], out: &mut [u8]) -> u64
     ensures { λ r. ⌜ record { answer = r; out = now (out .exit) } ≡ listCall (now (bytes .entry)) (now (out .entry)) ⌝ }
 {
-    listed_number(list_part(0, bytes, true, out))
+    packed_listing(list_part(0, bytes, true, out))
 }

@@ -1,16 +1,16 @@
 // Where a register stands in a file.
 ghost use mathlib.Core.Path.{_≡_};
-ghost use Rattle.isa.specs.Number.{checkedNumber};
+ghost use Rattle.isa.specs.Number.{askedNumber};
 ghost use Rattle.capi.specs.Register.{Place, partNumber, registerCall};
-use isa::types::Checked;
+use isa::types::Asked;
+use regfile::check::asked_number;
 use regfile::check::check_register;
-use regfile::check::checked_number;
 use regfile::part::offset;
 
-fn number_of(c: Checked) -> u64
-    ensures { λ r. ⌜ r ≡ checkedNumber c ⌝ }
+fn number_of(a: Asked) -> u64
+    ensures { λ r. ⌜ r ≡ askedNumber a ⌝ }
 {
-    checked_number(c) as u64
+    asked_number(a) as u64
 }
 
 // The start in bits 16 to 39 and the length in bits 40 to 63.
@@ -26,9 +26,9 @@ fn packed_part(start: usize, length: usize) -> u64
 pub extern "C" fn kob_register(l: usize, size: usize, n: usize) -> u64
     ensures { λ r. ⌜ r ≡ registerCall l size n ⌝ }
 {
-    let checked = check_register(l, size, n);
-    let Checked::Passed = checked else {
-        return number_of(checked);
+    let asked = check_register(l, size, n);
+    let Asked::Found = asked else {
+        return number_of(asked);
     };
     let length = l >> 3;
     packed_part(offset(length, n), length)

@@ -13,7 +13,7 @@ use Rattle.isa.specs.declared.types.Form.{Form}
 use Rattle.isa.specs.declared.types.ByElement.{ByElement}
 use Rattle.isa.specs.declared.types.Op.{Op}
 use Rattle.isa.specs.declared.types.Decoded.{Decoded}
-use Rattle.isa.specs.Field.{bits}
+use Rattle.isa.specs.Field.{fieldValue}
 use Rattle.isa.specs.Table.{size, Q, i2, i1, ZmH, ZmS, cadd, sqcadd, cmla, sqrdcmlah, cmlaH, cmlaS, sqrdcmlahH, sqrdcmlahS, sqrdmlahVector, sqrdmlahScalar, sqrdmlshVector, sqrdmlshScalar}
 use Rattle.isa.specs.Decode.{table, decodeOf, addOf, mulOf, indexedOf, elementOf, vectorOf, sizeOf, rotationOf, addRotationOf}
 use Rattle.isa.proofs.Fields.{Fixed, fixed-matches}
@@ -66,24 +66,24 @@ module _ (w : ℕ) (fits : w < 2 ^ 32) where
 
   -- ---- bits 31 to 24 are those of a by-element form
 
-  q-of : (n : ℕ) → n < 2 → w / 16777216 ≡ 47 + 64 * n → bits Q w ≡ n
+  q-of : (n : ℕ) → n < 2 → w / 16777216 ≡ 47 + 64 * n → fieldValue Q w ≡ n
   q-of n h e = let d = div-div-eq-div-mul w 16777216 64 in omega arith
 
-  is-element : (b : Bool) (f : Form) → w / 16777216 ≡ formTop f → w / 1024 % 2 ≡ 0 → w / 4096 % 16 ≡ elementOpcode b → decodeOf w ≡ elementOf (elementBy b) f w (sizeOf (bits size w))
+  is-element : (b : Bool) (f : Form) → w / 16777216 ≡ formTop f → w / 1024 % 2 ≡ 0 → w / 4096 % 16 ≡ elementOpcode b → decodeOf w ≡ elementOf (elementBy b) f w (sizeOf (fieldValue size w))
   is-element false Form.Scalar t z p = row-read w 9 (fixed-matches sqrdmlahScalar refl w fits (omega arith ⨾ tt ⨾ tt ⨾ tt ⨾ p ⨾ z ⨾ tt ⨾ tt))
   is-element false Form.Vector64 t z p =
       row-read w 8 (fixed-matches sqrdmlahVector refl w fits (omega arith ⨾ omega arith ⨾ tt ⨾ tt ⨾ tt ⨾ p ⨾ z ⨾ tt ⨾ tt))
-      ∙ ap (λ (q : ℕ). elementOf Op.Sqrdmlah (vectorOf q) w (sizeOf (bits size w))) (q-of 0 (omega arith) t)
+      ∙ ap (λ (q : ℕ). elementOf Op.Sqrdmlah (vectorOf q) w (sizeOf (fieldValue size w))) (q-of 0 (omega arith) t)
   is-element false Form.Vector128 t z p =
       row-read w 8 (fixed-matches sqrdmlahVector refl w fits (omega arith ⨾ omega arith ⨾ tt ⨾ tt ⨾ tt ⨾ p ⨾ z ⨾ tt ⨾ tt))
-      ∙ ap (λ (q : ℕ). elementOf Op.Sqrdmlah (vectorOf q) w (sizeOf (bits size w))) (q-of 1 (omega arith) t)
+      ∙ ap (λ (q : ℕ). elementOf Op.Sqrdmlah (vectorOf q) w (sizeOf (fieldValue size w))) (q-of 1 (omega arith) t)
   is-element true Form.Scalar t z p = row-read w 11 (fixed-matches sqrdmlshScalar refl w fits (omega arith ⨾ tt ⨾ tt ⨾ tt ⨾ p ⨾ z ⨾ tt ⨾ tt))
   is-element true Form.Vector64 t z p =
       row-read w 10 (fixed-matches sqrdmlshVector refl w fits (omega arith ⨾ omega arith ⨾ tt ⨾ tt ⨾ tt ⨾ p ⨾ z ⨾ tt ⨾ tt))
-      ∙ ap (λ (q : ℕ). elementOf Op.Sqrdmlsh (vectorOf q) w (sizeOf (bits size w))) (q-of 0 (omega arith) t)
+      ∙ ap (λ (q : ℕ). elementOf Op.Sqrdmlsh (vectorOf q) w (sizeOf (fieldValue size w))) (q-of 0 (omega arith) t)
   is-element true Form.Vector128 t z p =
       row-read w 10 (fixed-matches sqrdmlshVector refl w fits (omega arith ⨾ omega arith ⨾ tt ⨾ tt ⨾ tt ⨾ p ⨾ z ⨾ tt ⨾ tt))
-      ∙ ap (λ (q : ℕ). elementOf Op.Sqrdmlsh (vectorOf q) w (sizeOf (bits size w))) (q-of 1 (omega arith) t)
+      ∙ ap (λ (q : ℕ). elementOf Op.Sqrdmlsh (vectorOf q) w (sizeOf (fieldValue size w))) (q-of 1 (omega arith) t)
 
   -- an H word, an S word, and the sizes that are reserved
   pub is-element-n : (b : Bool) (f : Form) (n : ℕ) → w / 16777216 ≡ formTop f → w / 1024 % 2 ≡ 0 → w / 4096 % 16 ≡ elementOpcode b → w / 4194304 % 4 ≡ n → decodeOf w ≡ elementOf (elementBy b) f w (sizeOf n)

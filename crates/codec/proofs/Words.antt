@@ -9,9 +9,9 @@ use Rattle.isa.specs.declared.types.Add.{Add}
 use Rattle.isa.specs.declared.types.Mul.{Mul}
 use Rattle.isa.specs.declared.types.MulIndexed.{MulIndexed}
 use Rattle.isa.specs.declared.types.ByElement.{ByElement}
-use Rattle.isa.specs.Field.{written}
+use Rattle.isa.specs.Field.{rowWord}
 use Rattle.isa.specs.Table.{addRow, mulRow, indexedRow, scalarRow, vectorRow, i2, i1, ZmH, ZmS}
-use Rattle.isa.specs.Encode.{sizeBits, rotationBits, addRotationBits, bySize, formWritten, elementFieldsOf, addChecks, mulChecks, indexedChecks, elementChecks}
+use Rattle.isa.specs.Encode.{sizeBits, rotationBits, addRotationBits, bySize, formWord, elementFieldsOf, addChecks, mulChecks, indexedChecks, elementChecks}
 use Rattle.isa.specs.Valid.{AddValid, MulValid, IndexedValid, ElementValid}
 use Rattle.codec.specs.Base.{formBase}
 
@@ -25,14 +25,14 @@ mul-sum base a hs hr v = omega arith
 pub indexed-sum : (h s : ℕ) (a : MulIndexed) {b r : ℕ} → b ≡ bySize (h + a .index % 4 * 524288 % 4294967296) (s + a .index % 2 * 1048576 % 4294967296) (a .size) → (r ≡ rotationBits (a .rot)) × (r < 4) → IndexedValid a → b + a .zm % 32 * 65536 % 4294967296 + r * 1024 % 4294967296 + a .zn % 32 * 32 % 4294967296 + a .zda % 32 ≡ indexedChecks (indexedRow i2 ZmH h) (indexedRow i1 ZmS s) a .word
 indexed-sum h s a {b} {r} hb hr v = by (a .size) hb (v .index)
   where
-    by : (z : Size) → b ≡ bySize (h + a .index % 4 * 524288 % 4294967296) (s + a .index % 2 * 1048576 % 4294967296) z → a .index < bySize 4 2 z → b + a .zm % 32 * 65536 % 4294967296 + r * 1024 % 4294967296 + a .zn % 32 * 32 % 4294967296 + a .zda % 32 ≡ written (bySize (indexedRow i2 ZmH h) (indexedRow i1 ZmS s) z) (a .index ∷ a .zm ∷ rotationBits (a .rot) ∷ a .zn ∷ a .zda ∷ [])
+    by : (z : Size) → b ≡ bySize (h + a .index % 4 * 524288 % 4294967296) (s + a .index % 2 * 1048576 % 4294967296) z → a .index < bySize 4 2 z → b + a .zm % 32 * 65536 % 4294967296 + r * 1024 % 4294967296 + a .zn % 32 * 32 % 4294967296 + a .zda % 32 ≡ rowWord (bySize (indexedRow i2 ZmH h) (indexedRow i1 ZmS s) z) (a .index ∷ a .zm ∷ rotationBits (a .rot) ∷ a .zn ∷ a .zda ∷ [])
     by Size.B e hi = omega arith
     by Size.H e hi = omega arith
     by Size.S e hi = omega arith
     by Size.D e hi = omega arith
 
 -- by element: the form's base is the row of the form, with Q for a vector
-form-word : (scalar vector : ℕ) (f : Form) (vs : List ℕ) → formWritten (scalarRow scalar) (vectorRow vector) f vs ≡ written (scalarRow (formBase scalar vector f)) vs
+form-word : (scalar vector : ℕ) (f : Form) (vs : List ℕ) → formWord (scalarRow scalar) (vectorRow vector) f vs ≡ rowWord (scalarRow (formBase scalar vector f)) vs
 form-word scalar vector Form.Scalar vs = refl
 form-word scalar vector Form.Vector64 vs = omega arith
 form-word scalar vector Form.Vector128 vs = omega arith
@@ -45,9 +45,9 @@ element-index i Size.S h = omega arith
 element-index i Size.D h = omega arith
 
 pub element-sum : (scalar vector : ℕ) (a : ByElement) {b d : ℕ} → b ≡ formBase scalar vector (a .form) → d ≡ bySize (4194304 + a .index / 2 % 2 * 2097152 % 4294967296 + a .index % 2 * 1048576 % 4294967296 + a .index / 4 % 2 * 2048 % 4294967296) (8388608 + a .index % 2 * 2097152 % 4294967296 + a .index / 2 % 2 * 2048 % 4294967296) (a .size) → ElementValid a → b + d + a .rm % 32 * 65536 % 4294967296 + a .rn % 32 * 32 % 4294967296 + a .rd % 32 ≡ elementChecks (scalarRow scalar) (vectorRow vector) a .word
-element-sum scalar vector a {b} {d} hb hd v = by (a .size) (hd ∙ element-index (a .index) (a .size) (v .index)) ∙ ap (λ (x : ℕ). written (scalarRow x) (elementFieldsOf a)) hb ∙ sym (form-word scalar vector (a .form) (elementFieldsOf a))
+element-sum scalar vector a {b} {d} hb hd v = by (a .size) (hd ∙ element-index (a .index) (a .size) (v .index)) ∙ ap (λ (x : ℕ). rowWord (scalarRow x) (elementFieldsOf a)) hb ∙ sym (form-word scalar vector (a .form) (elementFieldsOf a))
   where
-    by : (z : Size) → d ≡ bySize (4194304 + a .index / 2 % 2 * 2097152 + a .index % 2 * 1048576 + a .index / 4 * 2048) (8388608 + a .index % 2 * 2097152 + a .index / 2 * 2048) z → b + d + a .rm % 32 * 65536 % 4294967296 + a .rn % 32 * 32 % 4294967296 + a .rd % 32 ≡ written (scalarRow b) (elementFieldsOf (record { form = a .form; size = z; rm = a .rm; index = a .index; rn = a .rn; rd = a .rd }))
+    by : (z : Size) → d ≡ bySize (4194304 + a .index / 2 % 2 * 2097152 + a .index % 2 * 1048576 + a .index / 4 * 2048) (8388608 + a .index % 2 * 2097152 + a .index / 2 * 2048) z → b + d + a .rm % 32 * 65536 % 4294967296 + a .rn % 32 * 32 % 4294967296 + a .rd % 32 ≡ rowWord (scalarRow b) (elementFieldsOf (record { form = a .form; size = z; rm = a .rm; index = a .index; rn = a .rn; rd = a .rd }))
     by Size.B e = omega arith
     by Size.H e = omega arith
     by Size.S e = omega arith

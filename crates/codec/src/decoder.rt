@@ -1,7 +1,7 @@
 // The operation that a word is: its size, rotation and opcode fields, taken out as numbers, choose the family and the form.
 ghost use mathlib.Core.Path.{_≡_};
 ghost use Prim.Native.Nat.{_/_, _%_};
-ghost use Rattle.isa.specs.Field.{bits};
+ghost use Rattle.isa.specs.Field.{fieldValue};
 ghost use Rattle.isa.specs.Table.{size};
 ghost use Rattle.isa.specs.Decode.{sizeOf, rotationOf, addRotationOf, addOf, mulOf, indexedWith, elementWith, elementOf, decodeOf};
 ghost use Rattle.codec.specs.Pair.{formTop, ElementTop, addBy, mulBy, mulOpcode, indexedBy, indexedOpcode, elementBy, elementOpcode};

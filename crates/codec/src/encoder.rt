@@ -105,10 +105,10 @@ fn answered(size: bool, rotation: bool, registers: bool, index: bool, word: u32)
         return Written::NoRotation;
     }
     if !registers {
-        return Written::NoRegister;
+        return Written::RegisterLimit;
     }
     if !index {
-        return Written::NoIndex;
+        return Written::IndexLimit;
     }
     Written::Word(word)
 }

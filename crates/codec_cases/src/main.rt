@@ -263,8 +263,8 @@ fn print_written(f: Fields) {
         Written::Word(word) => print_answer(0, word),
         Written::NoSize => print_answer(7, 0),
         Written::NoRotation => print_answer(8, 0),
-        Written::NoRegister => print_answer(9, 0),
-        Written::NoIndex => print_answer(10, 0),
+        Written::RegisterLimit => print_answer(9, 0),
+        Written::IndexLimit => print_answer(10, 0),
     }
 }
 

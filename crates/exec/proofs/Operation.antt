@@ -28,7 +28,7 @@ use Rattle.isa.proofs.Sources.{writes-dest, flag-made, valid-below, or-false}
 use Rattle.regfile.specs.Place.{Starts}
 use Rattle.regfile.specs.Sweep.{Held, Placed, Lying, By, Swept, Within, bytesFrom, Touched}
 use Rattle.regfile.proofs.Sweep.{made-written}
-use Rattle.exec.specs.Step.{Worked}
+use Rattle.exec.specs.Step.{Executed}
 
 -- ---- where the registers are
 
@@ -78,13 +78,13 @@ from-start L f r at e = λ t i. getD f (ap (λ x. x + i) e t) 0
 
 module _ (L : ℕ) (op : Op) (valid : Valid op) (f : List ℕ) (held : Held L f) (d n m : ℕ) (p : Placed (L / 8) op d n m) where
   pub swept-worked : advancedSimd op ≡ false → (rule : Rule) → ((c a b : Bytes) (i : ℕ) → made op c a b i ≡ rule c a b i) → (after : List ℕ) →
-      Swept L rule f d n m after → Worked L op f after false
+      Swept L rule f d n m after → Executed L op f after false
   swept-worked sve rule same after s = record {
     left = s .left op (record { valid = valid; sve = sve; placed = p; same = same });
     flag = λ qc. flag-kept op sve (byteAt L f) qc ∙ or-false qc;
   }
 
-  pub touched-worked : advancedSimd op ≡ true → (after : List ℕ) (clamped : Bool) → Touched (made op) (clampsIn op) f d n m after clamped → Worked L op f after clamped
+  pub touched-worked : advancedSimd op ≡ true → (after : List ℕ) (clamped : Bool) → Touched (made op) (clampsIn op) f d n m after clamped → Executed L op f after clamped
   touched-worked simd after clamped t =
       let dest : d ≡ destOf op * (L / 8) + 16 * 0 = omega (arith, p .dest) in
       let first : n ≡ firstOf op * (L / 8) + 16 * 0 = omega (arith, p .first) in
@@ -140,5 +140,5 @@ touched-at a minus known limit w f d n m after r e h same t =
     subst (λ z. Touched (laneBytes (a .form) z (a .index) minus) (laneClamps (a .form) z (a .index) minus) f d n m after r) (sym e)
     (subst (λ i. Touched (laneBytes (a .form) known i minus) (laneClamps (a .form) known i minus) f d n m after r) (by-limit (a .index) limit w h same) t)
 
-pub worked-as : (L : ℕ) {op known : Op} (f after : List ℕ) (r : Bool) → op ≡ known → Worked L known f after r → Worked L op f after r
-worked-as L f after r e w = subst (λ o. Worked L o f after r) (sym e) w
+pub worked-as : (L : ℕ) {op known : Op} (f after : List ℕ) (r : Bool) → op ≡ known → Executed L known f after r → Executed L op f after r
+worked-as L f after r e w = subst (λ o. Executed L o f after r) (sym e) w

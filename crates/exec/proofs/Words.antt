@@ -22,7 +22,7 @@ use Rattle.isa.proofs.Run.{reserved, outside}
 use Rattle.isa.proofs.Going.{Going, going-starts, going-on, going-stops, going-ends}
 use Rattle.exec.specs.declared.state.State.{State}
 use Rattle.exec.specs.declared.state.Stepped.{Stepped}
-use Rattle.exec.specs.Step.{Worked, steppedOf, fileAfter, refusalOf}
+use Rattle.exec.specs.Step.{Executed, endedAs, steppedOf, fileAfter, refusalOf}
 
 -- ---- one word
 
@@ -30,21 +30,21 @@ tag-above : (x : ℕ) → OneOf (1 ∷ 2 ∷ []) x → 0 < x
 tag-above x h = ⊎-elim (λ e. omega arith) (λ e. omega arith) h
 
 module _ (L : ℕ) (file : List ℕ) (s : State) where
-  no-operation : (k : Decoded) → OneOf (1 ∷ 2 ∷ []) (tagOf the-type k) → (Stepped.Stopped (refusalOf k) ≡ steppedOf k L file s) × (file ≡ fileAfter k L file)
+  no-operation : (k : Decoded) → OneOf (1 ∷ 2 ∷ []) (tagOf the-type k) → (Stepped.Stopped (endedAs (refusalOf k) s) ≡ steppedOf k L file s) × (file ≡ fileAfter k L file)
   no-operation (Decoded.Operation op) h = let z = tag-above 0 h in absurd (omega arith)
   no-operation Decoded.Reserved h = (refl, refl)
   no-operation Decoded.Outside h = (refl, refl)
 
   -- a word that is no operation
-  pub refused-word : (k known : Decoded) (e : Ending) → OneOf (1 ∷ 2 ∷ []) (tagOf the-type k) → k ≡ known → e ≡ refusalOf k →
-      (Stepped.Stopped e ≡ steppedOf known L file s) × (file ≡ fileAfter known L file)
-  refused-word k known e h p q =
-      let r = no-operation k h in
-      (ap Stepped.Stopped q ∙ r .0 ∙ ap (λ x. steppedOf x L file s) p, r .1 ∙ ap (λ x. fileAfter x L file) p)
+  pub refused-word : (k known : Decoded) (e : Ending) (r : Ran) → OneOf (1 ∷ 2 ∷ []) (tagOf the-type k) → k ≡ known → e ≡ refusalOf k → r ≡ endedAs e s →
+      (Stepped.Stopped r ≡ steppedOf known L file s) × (file ≡ fileAfter known L file)
+  refused-word k known e r h p q a =
+      let o = no-operation k h in
+      (ap Stepped.Stopped (a ∙ ap (λ x. endedAs x s) q) ∙ o .0 ∙ ap (λ x. steppedOf x L file s) p, o .1 ∙ ap (λ x. fileAfter x L file) p)
 
   -- a word that is one
   pub done-word : (known : Decoded) (op : Op) (after : List ℕ) (clamped : Bool) (next : State) → known ≡ Decoded.Operation op →
-      Worked L op file after clamped → (next .qc ≡ (s .qc || clamped)) × (next .done ≡ s .done + 1) →
+      Executed L op file after clamped → (next .qc ≡ (s .qc || clamped)) × (next .done ≡ s .done + 1) →
       (Stepped.Next next ≡ steppedOf known L file s) × (after ≡ fileAfter known L file)
   done-word known op after clamped next p w n =
       let flag : next .qc ≡ flagAfter op (byteAt L file) (s .qc) = n .0 ∙ sym (w .flag (s .qc)) in
@@ -73,15 +73,15 @@ module _ (L : ℕ) (words : List ℕ) (s₀ : isa.State) (file : List ℕ) (s : 
   on-by more next Decoded.Reserved e h = let z : _≡_ {A = ℕ} 0 1 = cc in absurd (omega arith)
   on-by more next Decoded.Outside e h = let z : _≡_ {A = ℕ} 0 1 = cc in absurd (omega arith)
 
-  stop-by : (more : i < length words) (e : Ending) (d : Decoded) → decodeOf (getD words i 0) ≡ d → steppedOf d L file s ≡ Stepped.Stopped e →
-      isa.ended e (stateOf (fileAfter d L file) s) ≡ isa.run L words s₀
-  stop-by more e (Decoded.Operation op) p h = let z : _≡_ {A = ℕ} 0 1 = cc in absurd (omega arith)
-  stop-by more e Decoded.Reserved p h =
-      let same : Ending.Reserved ≡ e = cc in
-      ap (λ x. isa.ended x (stateOf file s)) (sym same) ∙ going-stops L words s₀ (stateOf file s) i g reserved more p
-  stop-by more e Decoded.Outside p h =
-      let same : Ending.Outside ≡ e = cc in
-      ap (λ x. isa.ended x (stateOf file s)) (sym same) ∙ going-stops L words s₀ (stateOf file s) i g outside more p
+  stop-by : (more : i < length words) (r : Ran) (d : Decoded) → decodeOf (getD words i 0) ≡ d → steppedOf d L file s ≡ Stepped.Stopped r →
+      record { answer = r; file = fileAfter d L file } ≡ isa.run L words s₀
+  stop-by more r (Decoded.Operation op) p h = let z : _≡_ {A = ℕ} 0 1 = cc in absurd (omega arith)
+  stop-by more r Decoded.Reserved p h =
+      let same : endedAs Ending.Reserved s ≡ r = cc in
+      ap (λ x. record { answer = x; file = file }) (sym same) ∙ going-stops L words s₀ (stateOf file s) i g reserved more p
+  stop-by more r Decoded.Outside p h =
+      let same : endedAs Ending.Outside s ≡ r = cc in
+      ap (λ x. record { answer = x; file = file }) (sym same) ∙ going-stops L words s₀ (stateOf file s) i g outside more p
 
   -- the word was an operation, and `next` and `after` are what it left
   pub words-on : i < length words → (next : State) (stepped : Stepped) (after : List ℕ) →
@@ -91,13 +91,13 @@ module _ (L : ℕ) (words : List ℕ) (s₀ : isa.State) (file : List ℕ) (s : 
       subst (λ f. Going L words s₀ (stateOf f next) (i + 1)) (sym (w .1)) (on-by more next (decodeOf (getD words i 0)) refl (sym (w .0) ∙ e))
 
   -- it was none, and the run ends
-  pub words-stop : i < length words → (e : Ending) (stepped : Stepped) (after : List ℕ) (r : Ran) →
-      (stepped ≡ steppedOf (decodeOf (getD words i 0)) L file s) × (after ≡ fileAfter (decodeOf (getD words i 0)) L file) → stepped ≡ Stepped.Stopped e →
-      r ≡ record { ending = e; done = s .done; qc = s .qc } → record { answer = r; file = after } ≡ isa.run L words s₀
-  words-stop more e stepped after r w p q =
-      (λ t. record { answer = q t; file = w .1 t }) ∙ stop-by more e (decodeOf (getD words i 0)) refl (sym (w .0) ∙ p)
+  pub words-stop : i < length words → (r : Ran) (stepped : Stepped) (after : List ℕ) →
+      (stepped ≡ steppedOf (decodeOf (getD words i 0)) L file s) × (after ≡ fileAfter (decodeOf (getD words i 0)) L file) → stepped ≡ Stepped.Stopped r →
+      record { answer = r; file = after } ≡ isa.run L words s₀
+  words-stop more r stepped after w p =
+      (λ t. record { answer = r; file = w .1 t }) ∙ stop-by more r (decodeOf (getD words i 0)) refl (sym (w .0) ∙ p)
 
   -- no word is left
-  pub words-end : length words ≤ i → (r : Ran) → r ≡ record { ending = Ending.Done; done = s .done; qc = s .qc } →
+  pub words-end : length words ≤ i → (r : Ran) → r ≡ endedAs Ending.Done s →
       record { answer = r; file = file } ≡ isa.run L words s₀
   words-end h r q = (λ t. record { answer = q t; file = file }) ∙ going-ends L words s₀ (stateOf file s) i g h

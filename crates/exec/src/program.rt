@@ -54,7 +54,7 @@ fn step_word(l: usize, file: &mut [u8], starts: &[usize; 32], state: State, word
 {
     let decoded = decode(word);
     let Decoded::Operation(op) = decoded else {
-        return Stepped::Stopped(refusal(decoded));
+        return Stepped::Stopped(state.ended(refusal(decoded)));
     };
     let clamped = step(l, file, starts, op);
     Stepped::Next(state.counted(clamped))
@@ -75,23 +75,13 @@ fn run_words(l: usize, file: &mut [u8], qc: bool, words: &[u32]) -> Ran
             Stepped::Next(next) => {
                 state = next;
             }
-            Stepped::Stopped(e) => {
-                return ran(e, state);
+            Stepped::Stopped(ran) => {
+                return ran;
             }
         }
         i += 1;
     }
-    ran(Ending::Done, state)
-}
-
-fn ran(ending: Ending, state: State) -> Ran
-    ensures { λ r. ⌜ r ≡ record { ending = ending; done = state .done; qc = state .qc } ⌝ }
-{
-    Ran {
-        ending,
-        done: state.done,
-        qc: state.qc,
-    }
+    state.ended(Ending::Done)
 }
 
 // A refusal before the first word.
@@ -119,7 +109,6 @@ pub fn run(l: usize, file: &mut [u8], qc: bool, words: &[u32]) -> Ran
         }
         Checked::BadLength => refused(Ending::BadLength, qc),
         Checked::BadSize => refused(Ending::BadSize, qc),
-        Checked::NoRegister => refused(Ending::BadSize, qc),
     }
 }
 

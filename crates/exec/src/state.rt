@@ -3,6 +3,7 @@ ghost use mathlib.Core.Path.{_≡_};
 ghost use mathlib.Core.Bool.{_||_};
 ghost use Prim.Native.Nat.{_+_, _<_};
 use isa::types::Ending;
+use isa::types::Ran;
 
 // The flag QC and the words done.
 pub struct State {
@@ -10,10 +11,10 @@ pub struct State {
     pub done: usize,
 }
 
-// What one word's step answers: the state to go on with, or why the run ends.
+// What one word's step answers: the state to go on with, or what the run that ends there answers.
 pub enum Stepped {
     Next(State),
-    Stopped(Ending),
+    Stopped(Ran),
 }
 
 impl State {
@@ -31,6 +32,17 @@ impl State {
         State {
             qc: if self.qc { true } else { clamped },
             done: self.done + 1,
+        }
+    }
+
+    // What a run answers that ends in this state.
+    pub fn ended(self, ending: Ending) -> Ran
+        ensures { λ r. ⌜ r ≡ record { ending = ending; done = self .done; qc = self .qc } ⌝ }
+    {
+        Ran {
+            ending,
+            done: self.done,
+            qc: self.qc,
         }
     }
 }

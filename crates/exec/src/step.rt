@@ -4,7 +4,7 @@ ghost use Prim.Native.Nat.{_/_};
 ghost use Rattle.isa.specs.Valid.{Valid, AddValid, MulValid, IndexedValid, ElementValid};
 ghost use Rattle.regfile.specs.Place.{Starts};
 ghost use Rattle.regfile.specs.Sweep.{Held};
-ghost use Rattle.exec.specs.Step.{Worked};
+ghost use Rattle.exec.specs.Step.{Executed};
 use crate::families::indexed;
 use crate::families::products;
 use crate::families::sums;
@@ -27,7 +27,7 @@ fn cadd(l: usize, file: &mut [u8], starts: &[usize; 32], a: Add) -> bool
     requires { ⌜ Held l (now file) ⌝ }
     requires { ⌜ Starts (l / 8) (now starts) ⌝ }
     requires { ⌜ AddValid a ⌝ }
-    ensures { λ r. ⌜ Worked l (Op.Cadd a) (now (file .entry)) (now (file .exit)) r ⌝ }
+    ensures { λ r. ⌜ Executed l (Op.Cadd a) (now (file .entry)) (now (file .exit)) r ⌝ }
 {
     let size = a.size;
     let rot = a.rot;
@@ -41,7 +41,7 @@ fn sqcadd(l: usize, file: &mut [u8], starts: &[usize; 32], a: Add) -> bool
     requires { ⌜ Held l (now file) ⌝ }
     requires { ⌜ Starts (l / 8) (now starts) ⌝ }
     requires { ⌜ AddValid a ⌝ }
-    ensures { λ r. ⌜ Worked l (Op.Sqcadd a) (now (file .entry)) (now (file .exit)) r ⌝ }
+    ensures { λ r. ⌜ Executed l (Op.Sqcadd a) (now (file .entry)) (now (file .exit)) r ⌝ }
 {
     let size = a.size;
     let rot = a.rot;
@@ -55,7 +55,7 @@ fn cmla(l: usize, file: &mut [u8], starts: &[usize; 32], a: Mul) -> bool
     requires { ⌜ Held l (now file) ⌝ }
     requires { ⌜ Starts (l / 8) (now starts) ⌝ }
     requires { ⌜ MulValid a ⌝ }
-    ensures { λ r. ⌜ Worked l (Op.Cmla a) (now (file .entry)) (now (file .exit)) r ⌝ }
+    ensures { λ r. ⌜ Executed l (Op.Cmla a) (now (file .entry)) (now (file .exit)) r ⌝ }
 {
     let size = a.size;
     let rot = a.rot;
@@ -70,7 +70,7 @@ fn sqrdcmlah(l: usize, file: &mut [u8], starts: &[usize; 32], a: Mul) -> bool
     requires { ⌜ Held l (now file) ⌝ }
     requires { ⌜ Starts (l / 8) (now starts) ⌝ }
     requires { ⌜ MulValid a ⌝ }
-    ensures { λ r. ⌜ Worked l (Op.Sqrdcmlah a) (now (file .entry)) (now (file .exit)) r ⌝ }
+    ensures { λ r. ⌜ Executed l (Op.Sqrdcmlah a) (now (file .entry)) (now (file .exit)) r ⌝ }
 {
     let size = a.size;
     let rot = a.rot;
@@ -85,7 +85,7 @@ fn cmla_indexed(l: usize, file: &mut [u8], starts: &[usize; 32], a: MulIndexed) 
     requires { ⌜ Held l (now file) ⌝ }
     requires { ⌜ Starts (l / 8) (now starts) ⌝ }
     requires { ⌜ IndexedValid a ⌝ }
-    ensures { λ r. ⌜ Worked l (Op.CmlaIndexed a) (now (file .entry)) (now (file .exit)) r ⌝ }
+    ensures { λ r. ⌜ Executed l (Op.CmlaIndexed a) (now (file .entry)) (now (file .exit)) r ⌝ }
 {
     let size = a.size;
     let rot = a.rot;
@@ -100,7 +100,7 @@ fn sqrdcmlah_indexed(l: usize, file: &mut [u8], starts: &[usize; 32], a: MulInde
     requires { ⌜ Held l (now file) ⌝ }
     requires { ⌜ Starts (l / 8) (now starts) ⌝ }
     requires { ⌜ IndexedValid a ⌝ }
-    ensures { λ r. ⌜ Worked l (Op.SqrdcmlahIndexed a) (now (file .entry)) (now (file .exit)) r ⌝ }
+    ensures { λ r. ⌜ Executed l (Op.SqrdcmlahIndexed a) (now (file .entry)) (now (file .exit)) r ⌝ }
 {
     let size = a.size;
     let rot = a.rot;
@@ -116,7 +116,7 @@ fn sqrdmlah(l: usize, file: &mut [u8], starts: &[usize; 32], a: ByElement) -> bo
     requires { ⌜ Held l (now file) ⌝ }
     requires { ⌜ Starts (l / 8) (now starts) ⌝ }
     requires { ⌜ ElementValid a ⌝ }
-    ensures { λ r. ⌜ Worked l (Op.Sqrdmlah a) (now (file .entry)) (now (file .exit)) r ⌝ }
+    ensures { λ r. ⌜ Executed l (Op.Sqrdmlah a) (now (file .entry)) (now (file .exit)) r ⌝ }
 {
     let size = a.size;
     let form = a.form;
@@ -137,7 +137,7 @@ fn sqrdmlsh(l: usize, file: &mut [u8], starts: &[usize; 32], a: ByElement) -> bo
     requires { ⌜ Held l (now file) ⌝ }
     requires { ⌜ Starts (l / 8) (now starts) ⌝ }
     requires { ⌜ ElementValid a ⌝ }
-    ensures { λ r. ⌜ Worked l (Op.Sqrdmlsh a) (now (file .entry)) (now (file .exit)) r ⌝ }
+    ensures { λ r. ⌜ Executed l (Op.Sqrdmlsh a) (now (file .entry)) (now (file .exit)) r ⌝ }
 {
     let size = a.size;
     let form = a.form;
@@ -158,7 +158,7 @@ pub fn step(l: usize, file: &mut [u8], starts: &[usize; 32], op: Op) -> bool
     requires { ⌜ Held l (now file) ⌝ }
     requires { ⌜ Starts (l / 8) (now starts) ⌝ }
     requires { ⌜ Valid op ⌝ }
-    ensures { λ r. ⌜ Worked l op (now (file .entry)) (now (file .exit)) r ⌝ }
+    ensures { λ r. ⌜ Executed l op (now (file .entry)) (now (file .exit)) r ⌝ }
 {
     match op {
         Op::Cadd(a) => cadd(l, file, starts, a),

@@ -4,6 +4,6 @@ use mathlib.Core.Path.{_≡_}
 use mathlib.Core.List.{List}
 use lib.ListN.{length}
 
-pub record Within (n : ℕ) (before after : List ℕ) : Type 0 where
+pub record ReadInto (n : ℕ) (before after : List ℕ) : Type 0 where
   pub least : n ≤ length after
   pub same : length after ≡ length before

@@ -2,7 +2,7 @@
 ghost use mathlib.Core.Path.{_≡_};
 ghost use Prim.Native.Nat.{_≤_};
 ghost use lib.ListN.{length};
-ghost use Rattle.input.specs.Filled.{Within};
+ghost use Rattle.input.specs.Filled.{ReadInto};
 use libc::STDIN_FILENO;
 
 // How many bytes were read, and whether a read failed after them.
@@ -13,7 +13,7 @@ pub struct Filled {
 
 // Reads until the buffer is full, the input ends or a read fails. A short read is not the end, and a failed one is told from it.
 pub fn fill(buf: &mut [u8]) -> Filled
-    ensures { λ r. ⌜ Within (r .length) (now (buf .entry)) (now (buf .exit)) ⌝ }
+    ensures { λ r. ⌜ ReadInto (r .length) (now (buf .entry)) (now (buf .exit)) ⌝ }
 {
     let mut done = 0;
     while done < buf.len() {

@@ -162,4 +162,8 @@ one-segment words short L k ok within file size qc none =
     }
 
 pub length-agnostic : LengthAgnostic
-length-agnostic = record { lengths = two-lengths; segments = one-segment }
+length-agnostic = record {
+  lengths = two-lengths;
+  segments = one-segment;
+  defined = (λ words short L ok file size qc. run-otherwise L file qc words ok size short);
+}

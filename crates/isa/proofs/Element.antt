@@ -19,7 +19,7 @@ use Rattle.integer.proofs.Wrap.{byte-zero}
 use Rattle.isa.specs.Register.{Size, bytes, bits, pairs, element}
 use Rattle.isa.specs.Meaning.{Form, laneCount, laneValue, laneEnd, laneBytes, laneClamps, anyBelow}
 use Rattle.isa.specs.Segment.{bytesOf, Elements}
-use Rattle.isa.specs.Stage.{lane, LanesOf, Summed, Clamped, Stored}
+use Rattle.isa.specs.Stage.{lane, LanesOf, Summed, Clamped, BytesOfLanes}
 use Rattle.isa.proofs.Local.{lane-small, count-small, any-local}
 
 -- ---- zero lies inside every range
@@ -54,7 +54,7 @@ past count (suc k) test h =
 pub elements : (f : Form) (z : Size) (index : ℕ) (minus : Bool) → index < 2 * pairs z →
     {c n m r : List ℕ} {x y ml s t : List ℤ} {b : ℤ} {count : ℕ} {any : Bool} →
     count ≡ laneCount f z → LanesOf z x (bytesOf c) → LanesOf z y (bytesOf n) → LanesOf z ml (bytesOf m) → b ≡ lane ml index →
-    Summed z count minus s x y b → Clamped z t s → Stored z r t → any ≡ anyBelow (2 * pairs z) (λ e. clamps (bits z) (lane s e)) →
+    Summed z count minus s x y b → Clamped z t s → BytesOfLanes z r t → any ≡ anyBelow (2 * pairs z) (λ e. clamps (bits z) (lane s e)) →
     Elements f z index minus r any c n m
 unfolding laneBytes laneClamps laneEnd laneValue
 elements f z index minus small {c} {n} {m} {r} {x} {y} {ml} {s} {t} {b} {count} {any} ec hx hy hm eb hs ht hr ha =

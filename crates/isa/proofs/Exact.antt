@@ -10,7 +10,7 @@ use Rattle.isa.specs.declared.types.Form.{Form}
 use Rattle.isa.specs.declared.types.ByElement.{ByElement}
 use Rattle.isa.specs.declared.types.Op.{Op}
 use Rattle.isa.specs.declared.types.Decoded.{Decoded}
-use Rattle.isa.specs.Field.{Row, matches, written, fieldsOf, bits}
+use Rattle.isa.specs.Field.{Row, matches, rowWord, fieldValues, fieldValue}
 use Rattle.isa.specs.Table.{size, Q}
 use Rattle.isa.specs.Decode.{Entry, table, decodeOf, elementOf, vectorOf, sizeOf}
 use Rattle.isa.specs.Allowed.{MatchesSome, sveRows, elementRows, AllowedWord, ReservedWord, OutsideWord}
@@ -51,7 +51,7 @@ element-operation mk f w (suc (suc (suc n))) op e = absurd (operation-reserved o
 -- ---- rows
 
 hits : (r : Row) (w : ℕ) → Of r w → matches r w ≡ true
-hits r w e = eq-eqb w (written r (fieldsOf (r .fields) w)) e
+hits r w e = eq-eqb w (rowWord r (fieldValues (r .fields) w)) e
 
 -- the word matches the row at a place of a list
 abbrev OfRow : ℕ → List Row → ℕ → Type 0
@@ -94,19 +94,19 @@ module _ (w : ℕ) where
       (λ e k. inl (some-at 5 sveRows w e)) ⨾
       (λ e k. inl (some-at 6 sveRows w e)) ⨾
       (λ e k. inl (some-at 7 sveRows w e)) ⨾
-      (λ e k. inr (some-at 0 elementRows w e, element-operation Op.Sqrdmlah _ w (bits size w) op k)) ⨾
-      (λ e k. inr (some-at 1 elementRows w e, element-operation Op.Sqrdmlah _ w (bits size w) op k)) ⨾
-      (λ e k. inr (some-at 2 elementRows w e, element-operation Op.Sqrdmlsh _ w (bits size w) op k)) ⨾
-      (λ e k. inr (some-at 3 elementRows w e, element-operation Op.Sqrdmlsh _ w (bits size w) op k)) ⨾ tt)
+      (λ e k. inr (some-at 0 elementRows w e, element-operation Op.Sqrdmlah _ w (fieldValue size w) op k)) ⨾
+      (λ e k. inr (some-at 1 elementRows w e, element-operation Op.Sqrdmlah _ w (fieldValue size w) op k)) ⨾
+      (λ e k. inr (some-at 2 elementRows w e, element-operation Op.Sqrdmlsh _ w (fieldValue size w) op k)) ⨾
+      (λ e k. inr (some-at 3 elementRows w e, element-operation Op.Sqrdmlsh _ w (fieldValue size w) op k)) ⨾ tt)
       (λ none k. absurd (operation-outside op (sym k)))
 
   -- the four by-element rows: what the word decodes to, whatever the size is
-  element-answer : (G : Type 0) → ((mk : ByElement → Op) (f : Form) → decodeOf w ≡ elementOf mk f w (sizeOf (bits size w)) → G) → MatchesSome elementRows w → G
+  element-answer : (G : Type 0) → ((mk : ByElement → Op) (f : Form) → decodeOf w ≡ elementOf mk f w (sizeOf (fieldValue size w)) → G) → MatchesSome elementRows w → G
   element-answer G k =
       by-some elementRows w G
-      ((λ e. k Op.Sqrdmlah (vectorOf (bits Q w)) (row-read w 8 e)) ⨾
+      ((λ e. k Op.Sqrdmlah (vectorOf (fieldValue Q w)) (row-read w 8 e)) ⨾
       (λ e. k Op.Sqrdmlah Form.Scalar (row-read w 9 e)) ⨾
-      (λ e. k Op.Sqrdmlsh (vectorOf (bits Q w)) (row-read w 10 e)) ⨾
+      (λ e. k Op.Sqrdmlsh (vectorOf (fieldValue Q w)) (row-read w 10 e)) ⨾
       (λ e. k Op.Sqrdmlsh Form.Scalar (row-read w 11 e)) ⨾ tt)
 
   abbrev IsOperation : Type 0
@@ -124,7 +124,7 @@ module _ (w : ℕ) where
       (λ e. (_, row-read w 6 e)) ⨾
       (λ e. (_, row-read w 7 e)) ⨾ tt)
 
-  of-element : MatchesSome elementRows w → (bits size w ≡ 1) ⊎ (bits size w ≡ 2) → IsOperation
+  of-element : MatchesSome elementRows w → (fieldValue size w ≡ 1) ⊎ (fieldValue size w ≡ 2) → IsOperation
   of-element m s = element-answer IsOperation (λ mk f e. ⊎-elim (λ z. (_, e ∙ ap (λ (n : ℕ). elementOf mk f w (sizeOf n)) z)) (λ z. (_, e ∙ ap (λ (n : ℕ). elementOf mk f w (sizeOf n)) z)) s) m
 
   pub operation-exact : ((op : Op) → decodeOf w ≡ Decoded.Operation op → AllowedWord w) × (AllowedWord w → IsOperation)
@@ -142,10 +142,10 @@ module _ (w : ℕ) where
       (λ e k. absurd (operation-reserved _ k)) ⨾
       (λ e k. absurd (operation-reserved _ k)) ⨾
       (λ e k. absurd (operation-reserved _ k)) ⨾
-      (λ e k. (some-at 0 elementRows w e, element-reserved Op.Sqrdmlah _ w (bits size w) (omega arith) k)) ⨾
-      (λ e k. (some-at 1 elementRows w e, element-reserved Op.Sqrdmlah _ w (bits size w) (omega arith) k)) ⨾
-      (λ e k. (some-at 2 elementRows w e, element-reserved Op.Sqrdmlsh _ w (bits size w) (omega arith) k)) ⨾
-      (λ e k. (some-at 3 elementRows w e, element-reserved Op.Sqrdmlsh _ w (bits size w) (omega arith) k)) ⨾ tt)
+      (λ e k. (some-at 0 elementRows w e, element-reserved Op.Sqrdmlah _ w (fieldValue size w) (omega arith) k)) ⨾
+      (λ e k. (some-at 1 elementRows w e, element-reserved Op.Sqrdmlah _ w (fieldValue size w) (omega arith) k)) ⨾
+      (λ e k. (some-at 2 elementRows w e, element-reserved Op.Sqrdmlsh _ w (fieldValue size w) (omega arith) k)) ⨾
+      (λ e k. (some-at 3 elementRows w e, element-reserved Op.Sqrdmlsh _ w (fieldValue size w) (omega arith) k)) ⨾ tt)
       (λ none k. absurd (reserved-outside (sym k)))
 
   reserved-all : ReservedWord w → decodeOf w ≡ Decoded.Reserved
@@ -168,10 +168,10 @@ module _ (w : ℕ) where
       (λ e. operation-outside _ (sym (row-read w 5 e) ∙ h)) ⨾
       (λ e. operation-outside _ (sym (row-read w 6 e) ∙ h)) ⨾
       (λ e. operation-outside _ (sym (row-read w 7 e) ∙ h)) ⨾
-      (λ e. element-outside Op.Sqrdmlah _ w (bits size w) (sym (row-read w 8 e) ∙ h)) ⨾
-      (λ e. element-outside Op.Sqrdmlah _ w (bits size w) (sym (row-read w 9 e) ∙ h)) ⨾
-      (λ e. element-outside Op.Sqrdmlsh _ w (bits size w) (sym (row-read w 10 e) ∙ h)) ⨾
-      (λ e. element-outside Op.Sqrdmlsh _ w (bits size w) (sym (row-read w 11 e) ∙ h)) ⨾ tt)
+      (λ e. element-outside Op.Sqrdmlah _ w (fieldValue size w) (sym (row-read w 8 e) ∙ h)) ⨾
+      (λ e. element-outside Op.Sqrdmlah _ w (fieldValue size w) (sym (row-read w 9 e) ∙ h)) ⨾
+      (λ e. element-outside Op.Sqrdmlsh _ w (fieldValue size w) (sym (row-read w 10 e) ∙ h)) ⨾
+      (λ e. element-outside Op.Sqrdmlsh _ w (fieldValue size w) (sym (row-read w 11 e) ∙ h)) ⨾ tt)
 
   pub outside-exact : (decodeOf w ≡ Decoded.Outside → OutsideWord w) × (OutsideWord w → decodeOf w ≡ Decoded.Outside)
   unfolding decodeOf

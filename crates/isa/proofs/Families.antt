@@ -20,10 +20,10 @@ use Rattle.isa.specs.declared.types.MulIndexed.{MulIndexed}
 use Rattle.isa.specs.declared.types.ByElement.{ByElement}
 use Rattle.isa.specs.declared.types.Op.{Op}
 use Rattle.isa.specs.declared.types.Decoded.{Decoded}
-use Rattle.isa.specs.Field.{Field, Row, width, bits, fieldsOf, written}
-use Rattle.isa.specs.Table.{size, rot1, rot2, ZmAdd, ZmMul, Zdn, Zda, Zn, Rn, Rd, Rm, H, L, M, Q, addRow, mulRow, indexedRow, scalarRow, vectorRow, elementFields}
+use Rattle.isa.specs.Field.{Field, Row, width, fieldValue, fieldValues, rowWord}
+use Rattle.isa.specs.Table.{size, rot1, rot2, ZmAdd, ZmMul, Zdn, Zda, Zn, Rn, Rd, Rm, H, L, M, Q, addRow, mulRow, indexedRow, scalarRow, vectorRow, elementRowFields}
 use Rattle.isa.specs.Decode.{sizeOf, rotationOf, addRotationOf, vectorOf, addOf, mulOf, indexedOf, elementWith, elementOf}
-use Rattle.isa.specs.Encode.{Checks, sizeBits, rotationBits, addRotation, addRotationBits, halfOrSingle, bySize, addChecks, mulChecks, indexedChecks, formWritten, elementFieldsOf, elementChecks}
+use Rattle.isa.specs.Encode.{Checks, sizeBits, rotationBits, addRotation, addRotationBits, halfOrSingle, bySize, addChecks, mulChecks, indexedChecks, formWord, elementFieldsOf, elementChecks}
 use Rattle.isa.proofs.Fields.{sound, Of, Fit, and-left, and-right, fields-written, of-written}
 use Rattle.isa.proofs.Checks.{Passed}
 
@@ -94,8 +94,8 @@ and-true : (a b : Bool) → a ≡ true → b ≡ true → (a && b) ≡ true
 and-true a b p q = rw (p, q)
 
 -- a field's number is at most what its width allows
-field-le : (f : Field) (w limit : ℕ) → 2 ^ width f ≡ suc limit → leb (bits f w) limit ≡ true
-field-le f w limit e = le-leb (bits f w) limit (let h = mod-lt (w / 2 ^ f .low) (pow-pos (width f)) in omega arith)
+field-le : (f : Field) (w limit : ℕ) → 2 ^ width f ≡ suc limit → leb (fieldValue f w) limit ≡ true
+field-le f w limit e = le-leb (fieldValue f w) limit (let h = mod-lt (w / 2 ^ f .low) (pow-pos (width f)) in omega arith)
 
 within : (x limit bound : ℕ) → bound ≡ suc limit → leb x limit ≡ true → x < bound
 within x limit bound e h = let l = leb-true x limit h in omega arith
@@ -124,10 +124,10 @@ module _ (base w : ℕ) where
   pub add-back : Of (addRow base) w → Passed (addChecks (addRow base) (addOf w)) w
   add-back e = record {
     size = refl;
-    rotation = add-rotation-has (bits rot1 w);
+    rotation = add-rotation-has (fieldValue rot1 w);
     registers = and-true _ _ (field-le ZmAdd w 31 refl) (field-le Zdn w 31 refl);
     index = refl;
-    word = ap (written (addRow base)) (λ k. size-bits-of (bits size w) (omega arith) k ∷ add-rotation-bits-of (bits rot1 w) (omega arith) k ∷ bits ZmAdd w ∷ bits Zdn w ∷ []) ∙ sym e;
+    word = ap (rowWord (addRow base)) (λ k. size-bits-of (fieldValue size w) (omega arith) k ∷ add-rotation-bits-of (fieldValue rot1 w) (omega arith) k ∷ fieldValue ZmAdd w ∷ fieldValue Zdn w ∷ []) ∙ sym e;
   }
 
   pub add-read : sound (addRow base) ≡ true → (a : Add) → Passed (addChecks (addRow base) a) w → Of (addRow base) w × (addOf w ≡ a)
@@ -152,7 +152,7 @@ module _ (base w : ℕ) where
     rotation = refl;
     registers = and-true _ _ (field-le ZmMul w 31 refl) (and-true _ _ (field-le Zn w 31 refl) (field-le Zda w 31 refl));
     index = refl;
-    word = ap (written (mulRow base)) (λ k. size-bits-of (bits size w) (omega arith) k ∷ bits ZmMul w ∷ rotation-bits-of (bits rot2 w) (omega arith) k ∷ bits Zn w ∷ bits Zda w ∷ []) ∙ sym e;
+    word = ap (rowWord (mulRow base)) (λ k. size-bits-of (fieldValue size w) (omega arith) k ∷ fieldValue ZmMul w ∷ rotation-bits-of (fieldValue rot2 w) (omega arith) k ∷ fieldValue Zn w ∷ fieldValue Zda w ∷ []) ∙ sym e;
   }
 
   pub mul-read : sound (mulRow base) ≡ true → (a : Mul) → Passed (mulChecks (mulRow base) a) w → Of (mulRow base) w × (mulOf w ≡ a)
@@ -185,8 +185,8 @@ module _ (h s : Row) (z : Size) (index zm : Field) (base w : ℕ) (at : IndexedA
     rotation = refl;
     registers = and-true _ _ (field-le zm w (bySize 7 15 z) (at .limit)) (and-true _ _ (field-le Zn w 31 refl) (field-le Zda w 31 refl));
     index = field-le index w (bySize 3 1 z) (at .last);
-    word = ap (λ (r : Row). written r (bits index w ∷ bits zm w ∷ rotationBits (rotationOf (bits rot2 w)) ∷ bits Zn w ∷ bits Zda w ∷ [])) (at .row)
-        ∙ ap (written (indexedRow index zm base)) (λ k. bits index w ∷ bits zm w ∷ rotation-bits-of (bits rot2 w) (omega arith) k ∷ bits Zn w ∷ bits Zda w ∷ []) ∙ sym e;
+    word = ap (λ (r : Row). rowWord r (fieldValue index w ∷ fieldValue zm w ∷ rotationBits (rotationOf (fieldValue rot2 w)) ∷ fieldValue Zn w ∷ fieldValue Zda w ∷ [])) (at .row)
+        ∙ ap (rowWord (indexedRow index zm base)) (λ k. fieldValue index w ∷ fieldValue zm w ∷ rotation-bits-of (fieldValue rot2 w) (omega arith) k ∷ fieldValue Zn w ∷ fieldValue Zda w ∷ []) ∙ sym e;
   }
 
   -- of an operation of that size, given by its fields
@@ -198,8 +198,8 @@ module _ (h s : Row) (z : Size) (index zm : Field) (base w : ℕ) (at : IndexedA
       let place : leb (a .index) (bySize 3 1 z) ≡ true = rw e (p .index) in
       let fit : Fit (indexedRow index zm base .fields) vs =
       (within (a .index) _ _ (at .last) place, (within (a .zm) _ _ (at .limit) second, (rotation-lt (a .rot), (r .n-in, (r .d-in, tt))))) in
-      let word : written (indexedRow index zm base) vs ≡ w =
-      ap (λ (r : Row). written r vs) (sym (at .row)) ∙ ap (λ (x : Size). written (bySize h s x) vs) e ∙ p .word in (
+      let word : rowWord (indexedRow index zm base) vs ≡ w =
+      ap (λ (r : Row). rowWord r vs) (sym (at .row)) ∙ ap (λ (x : Size). rowWord (bySize h s x) vs) e ∙ p .word in (
         subst (Of (indexedRow index zm base)) word (of-written (indexedRow index zm base) (at .whole) vs fit),
         ap (λ (x : ℕ). indexedOf z index zm x) (sym word) ∙ ap (indexedFrom z) (fields-written (indexedRow index zm base) (at .whole) vs fit)
             ∙ (λ k. record { size = e k; rot = rotation-of-bits (a .rot) k; zm = a .zm; index = a .index; zn = a .zn; zda = a .zda }),
@@ -219,33 +219,33 @@ register5 m r hm hr = (omega arith, omega arith)
 
 -- the operation of an H word and of an S word
 abbrev pub elementH : Form → ℕ → ByElement
-elementH f w = elementWith f Size.H (bits Rm w) (bits H w * 4 + bits L w * 2 + bits M w) w
+elementH f w = elementWith f Size.H (fieldValue Rm w) (fieldValue H w * 4 + fieldValue L w * 2 + fieldValue M w) w
 
 abbrev pub elementS : Form → ℕ → ByElement
-elementS f w = elementWith f Size.S (bits M w * 16 + bits Rm w) (bits H w * 2 + bits L w) w
+elementS f w = elementWith f Size.S (fieldValue M w * 16 + fieldValue Rm w) (fieldValue H w * 2 + fieldValue L w) w
 
-module _ (scalar vector : ℕ) (f : Form) (w : ℕ) (e : w ≡ formWritten (scalarRow scalar) (vectorRow vector) f (fieldsOf elementFields w)) where
-  pub elementH-back : bits size w ≡ 1 → Passed (elementChecks (scalarRow scalar) (vectorRow vector) (elementH f w)) w
+module _ (scalar vector : ℕ) (f : Form) (w : ℕ) (e : w ≡ formWord (scalarRow scalar) (vectorRow vector) f (fieldValues elementRowFields w)) where
+  pub elementH-back : fieldValue size w ≡ 1 → Passed (elementChecks (scalarRow scalar) (vectorRow vector) (elementH f w)) w
   elementH-back s =
-      let i = index3 (bits H w) (bits L w) (bits M w) (omega arith) (omega arith) (omega arith) in
+      let i = index3 (fieldValue H w) (fieldValue L w) (fieldValue M w) (omega arith) (omega arith) (omega arith) in
       record {
         size = refl;
         rotation = refl;
         registers = and-true _ _ (field-le Rm w 15 refl) (and-true _ _ (field-le Rn w 31 refl) (field-le Rd w 31 refl));
-        index = le-leb (bits H w * 4 + bits L w * 2 + bits M w) 7 (omega arith);
-        word = ap (formWritten (scalarRow scalar) (vectorRow vector) f) (λ k. sym s k ∷ i .0 k ∷ i .1 k ∷ bits Rm w ∷ i .2 k ∷ bits Rn w ∷ bits Rd w ∷ []) ∙ sym e;
+        index = le-leb (fieldValue H w * 4 + fieldValue L w * 2 + fieldValue M w) 7 (omega arith);
+        word = ap (formWord (scalarRow scalar) (vectorRow vector) f) (λ k. sym s k ∷ i .0 k ∷ i .1 k ∷ fieldValue Rm w ∷ i .2 k ∷ fieldValue Rn w ∷ fieldValue Rd w ∷ []) ∙ sym e;
       }
 
-  pub elementS-back : bits size w ≡ 2 → Passed (elementChecks (scalarRow scalar) (vectorRow vector) (elementS f w)) w
+  pub elementS-back : fieldValue size w ≡ 2 → Passed (elementChecks (scalarRow scalar) (vectorRow vector) (elementS f w)) w
   elementS-back s =
-      let i = index2 (bits H w) (bits L w) (omega arith) (omega arith) in
-      let r = register5 (bits M w) (bits Rm w) (omega arith) (omega arith) in
+      let i = index2 (fieldValue H w) (fieldValue L w) (omega arith) (omega arith) in
+      let r = register5 (fieldValue M w) (fieldValue Rm w) (omega arith) (omega arith) in
       record {
         size = refl;
         rotation = refl;
-        registers = and-true _ _ (le-leb (bits M w * 16 + bits Rm w) 31 (omega arith)) (and-true _ _ (field-le Rn w 31 refl) (field-le Rd w 31 refl));
-        index = le-leb (bits H w * 2 + bits L w) 3 (omega arith);
-        word = ap (formWritten (scalarRow scalar) (vectorRow vector) f) (λ k. sym s k ∷ i .0 k ∷ r .0 k ∷ r .1 k ∷ i .1 k ∷ bits Rn w ∷ bits Rd w ∷ []) ∙ sym e;
+        registers = and-true _ _ (le-leb (fieldValue M w * 16 + fieldValue Rm w) 31 (omega arith)) (and-true _ _ (field-le Rn w 31 refl) (field-le Rd w 31 refl));
+        index = le-leb (fieldValue H w * 2 + fieldValue L w) 3 (omega arith);
+        word = ap (formWord (scalarRow scalar) (vectorRow vector) f) (λ k. sym s k ∷ i .0 k ∷ r .0 k ∷ r .1 k ∷ i .1 k ∷ fieldValue Rn w ∷ fieldValue Rd w ∷ []) ∙ sym e;
       }
 
 abbrev elementHFrom : Form → List ℕ → ByElement
@@ -259,23 +259,23 @@ head-is n ns vs e = ap (λ (xs : List ℕ). getD xs 0 0) e
 
 module _ (mk : ByElement → Op) (f : Form) (rm index rn rd : ℕ) where
   -- a word with the fields of an operation of size z is that operation
-  pub element-is : (z : Size) (w : ℕ) → halfOrSingle z ≡ true → fieldsOf elementFields w ≡ elementFieldsOf (record { form = f; size = z; rm = rm; index = index; rn = rn; rd = rd }) → elementOf mk f w (sizeOf (bits size w)) ≡ Decoded.Operation (mk (record { form = f; size = z; rm = rm; index = index; rn = rn; rd = rd }))
+  pub element-is : (z : Size) (w : ℕ) → halfOrSingle z ≡ true → fieldValues elementRowFields w ≡ elementFieldsOf (record { form = f; size = z; rm = rm; index = index; rn = rn; rd = rd }) → elementOf mk f w (sizeOf (fieldValue size w)) ≡ Decoded.Operation (mk (record { form = f; size = z; rm = rm; index = index; rn = rn; rd = rd }))
   element-is Size.B w h e = cc
   element-is Size.H w h e =
       let i : index / 4 * 4 + index / 2 % 2 * 2 + index % 2 ≡ index = omega arith in
-      ap (λ (n : ℕ). elementOf mk f w (sizeOf n)) (head-is 1 _ (fieldsOf elementFields w) e)
+      ap (λ (n : ℕ). elementOf mk f w (sizeOf n)) (head-is 1 _ (fieldValues elementRowFields w) e)
       ∙ ap (λ (vs : List ℕ). Decoded.Operation (mk (elementHFrom f vs))) e
       ∙ (λ k. Decoded.Operation (mk (record { form = f; size = Size.H; rm = rm; index = i k; rn = rn; rd = rd })))
   element-is Size.S w h e =
       let i : index / 2 * 2 + index % 2 ≡ index = omega arith in
       let r : rm / 16 * 16 + rm % 16 ≡ rm = omega arith in
-      ap (λ (n : ℕ). elementOf mk f w (sizeOf n)) (head-is 2 _ (fieldsOf elementFields w) e)
+      ap (λ (n : ℕ). elementOf mk f w (sizeOf n)) (head-is 2 _ (fieldValues elementRowFields w) e)
       ∙ ap (λ (vs : List ℕ). Decoded.Operation (mk (elementSFrom f vs))) e
       ∙ (λ k. Decoded.Operation (mk (record { form = f; size = Size.S; rm = r k; index = i k; rn = rn; rd = rd })))
   element-is Size.D w h e = cc
 
   -- what is written of it fits the fields
-  pub element-fits : (z : Size) → halfOrSingle z ≡ true → leb rm (bySize 15 31 z) ≡ true → rn < 32 → rd < 32 → leb index (bySize 7 3 z) ≡ true → Fit elementFields (elementFieldsOf (record { form = f; size = z; rm = rm; index = index; rn = rn; rd = rd }))
+  pub element-fits : (z : Size) → halfOrSingle z ≡ true → leb rm (bySize 15 31 z) ≡ true → rn < 32 → rd < 32 → leb index (bySize 7 3 z) ≡ true → Fit elementRowFields (elementFieldsOf (record { form = f; size = z; rm = rm; index = index; rn = rn; rd = rd }))
   element-fits Size.B h hm hn hd hi = absurd (no-such h)
   element-fits Size.H h hm hn hd hi =
       let m = leb-true rm 15 hm in

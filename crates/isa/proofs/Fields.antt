@@ -12,14 +12,14 @@ use borrow.Author.Tests.{leb-true, eqb-true}
 use lib.Dec.{leb, eqb}
 use lib.Arith.{digits-lt}
 use lib.Pow.{pow-add, pow-pos, mod-pow-add, mod-mod-pow, field, high, low, shr-shr}
-use Rattle.isa.specs.Field.{Field, Row, width, bits, placed, fieldsOf, written}
+use Rattle.isa.specs.Field.{Field, Row, width, fieldValue, fieldSum, fieldValues, rowWord}
 
 -- ---- sound rows
 
 -- below bit `top`: the fields go down, and the base is zero in each
 abbrev pub soundBelow : ℕ → ℕ → List Field → Bool
 soundBelow top base [] = true
-soundBelow top base (f ∷ fs) = leb (width f + f .low) top && (eqb (bits f base) 0 && soundBelow (f .low) base fs)
+soundBelow top base (f ∷ fs) = leb (width f + f .low) top && (eqb (fieldValue f base) 0 && soundBelow (f .low) base fs)
 
 abbrev pub sound : Row → Bool
 sound r = leb (r .base) 4294967295 && soundBelow 32 (r .base) (r .fields)
@@ -40,7 +40,7 @@ and-right true b e = e
 and-right false b e = let z : true ≡ false = sym e in cc
 
 -- what the fields of any word hold fits
-pub fields-fit : (fs : List Field) (w : ℕ) → Fit fs (fieldsOf fs w)
+pub fields-fit : (fs : List Field) (w : ℕ) → Fit fs (fieldValues fs w)
 fields-fit [] w = tt
 fields-fit (f ∷ fs) w = (mod-lt (w / 2 ^ f .low) (pow-pos (width f)), fields-fit fs w)
 
@@ -115,14 +115,14 @@ module _ (base : ℕ) where
   fits-top : (top : ℕ) (f : Field) (fs : List Field) → soundBelow top base (f ∷ fs) ≡ true → width f + f .low ≤ top
   fits-top top f fs s = leb-true (width f + f .low) top (and-left _ _ s)
 
-  zero-here : (top : ℕ) (f : Field) (fs : List Field) → soundBelow top base (f ∷ fs) ≡ true → bits f base ≡ 0
-  zero-here top f fs s = eqb-true (bits f base) 0 (and-left (eqb (bits f base) 0) (soundBelow (f .low) base fs) (and-right (leb (width f + f .low) top) _ s))
+  zero-here : (top : ℕ) (f : Field) (fs : List Field) → soundBelow top base (f ∷ fs) ≡ true → fieldValue f base ≡ 0
+  zero-here top f fs s = eqb-true (fieldValue f base) 0 (and-left (eqb (fieldValue f base) 0) (soundBelow (f .low) base fs) (and-right (leb (width f + f .low) top) _ s))
 
   sound-rest : (top : ℕ) (f : Field) (fs : List Field) → soundBelow top base (f ∷ fs) ≡ true → soundBelow (f .low) base fs ≡ true
-  sound-rest top f fs s = and-right (eqb (bits f base) 0) (soundBelow (f .low) base fs) (and-right (leb (width f + f .low) top) _ s)
+  sound-rest top f fs s = and-right (eqb (fieldValue f base) 0) (soundBelow (f .low) base fs) (and-right (leb (width f + f .low) top) _ s)
 
   -- what is written below a bit stays below it
-  stays-below : (top : ℕ) (fs : List Field) (vs : List ℕ) → soundBelow top base fs ≡ true → Fit fs vs → base % 2 ^ top + placed fs vs < 2 ^ top
+  stays-below : (top : ℕ) (fs : List Field) (vs : List ℕ) → soundBelow top base fs ≡ true → Fit fs vs → base % 2 ^ top + fieldSum fs vs < 2 ^ top
   stays-below top [] [] s h = omega (arith, mod-lt base (pow-pos top))
   stays-below top [] (v ∷ vs) s h = absurd h
   stays-below top (f ∷ fs) [] s h = absurd h
@@ -130,13 +130,13 @@ module _ (base : ℕ) where
       let k = width f in
       let l = f .low in
       let g = top - (k + l) in
-      let less : ((base / 2 ^ l / 2 ^ k % 2 ^ g) * 2 ^ k + v) * 2 ^ l + (base % 2 ^ l + placed fs vs) < (2 ^ g * 2 ^ k) * 2 ^ l =
+      let less : ((base / 2 ^ l / 2 ^ k % 2 ^ g) * 2 ^ k + v) * 2 ^ l + (base % 2 ^ l + fieldSum fs vs) < (2 ^ g * 2 ^ k) * 2 ^ l =
       digits-lt (digits-lt (mod-lt (base / 2 ^ l / 2 ^ k) (pow-pos g)) (h .0)) (stays-below l fs vs (sound-rest top f fs s) (h .1)) in
-      subst (λ (n : ℕ). base % 2 ^ n + (v * 2 ^ l + placed fs vs) < 2 ^ n) (sym (at-top top k l (fits-top top f fs s)))
-      (rw (base-parts base g k l v (placed fs vs) (zero-here top f fs s), pow-add 2 (g + k) l, pow-add 2 g k) less)
+      subst (λ (n : ℕ). base % 2 ^ n + (v * 2 ^ l + fieldSum fs vs) < 2 ^ n) (sym (at-top top k l (fits-top top f fs s)))
+      (rw (base-parts base g k l v (fieldSum fs vs) (zero-here top f fs s), pow-add 2 (g + k) l, pow-add 2 g k) less)
 
   -- a word written from numbers that fit has them in its fields, and the base's bits elsewhere
-  reads : (top w : ℕ) (fs : List Field) (vs : List ℕ) → soundBelow top base fs ≡ true → Fit fs vs → w % 2 ^ top ≡ base % 2 ^ top + placed fs vs → (fieldsOf fs w ≡ vs) × FixedBelow top base w fs
+  reads : (top w : ℕ) (fs : List Field) (vs : List ℕ) → soundBelow top base fs ≡ true → Fit fs vs → w % 2 ^ top ≡ base % 2 ^ top + fieldSum fs vs → (fieldValues fs w ≡ vs) × FixedBelow top base w fs
   reads top w [] [] s h e = (refl, bits-same top 0 base w (rw (div-one w, div-one base) (e ∙ (omega arith))))
   reads top w [] (v ∷ vs) s h e = absurd h
   reads top w (f ∷ fs) [] s h e = absurd h
@@ -145,27 +145,27 @@ module _ (base : ℕ) where
       let l = f .low in
       let g = top - (k + l) in
       let rest = sound-rest top f fs s in
-      let r = field-read w base g k l v (placed fs vs) (zero-here top f fs s) (stays-below l fs vs rest (h .1)) (h .0)
-      (subst (λ (n : ℕ). w % 2 ^ n ≡ base % 2 ^ n + (v * 2 ^ l + placed fs vs)) (at-top top k l (fits-top top f fs s)) e) in
+      let r = field-read w base g k l v (fieldSum fs vs) (zero-here top f fs s) (stays-below l fs vs rest (h .1)) (h .0)
+      (subst (λ (n : ℕ). w % 2 ^ n ≡ base % 2 ^ n + (v * 2 ^ l + fieldSum fs vs)) (at-top top k l (fits-top top f fs s)) e) in
       let more = reads l w fs vs rest (h .1) (r .below) in
       (ap₂ (λ (x : ℕ) (xs : List ℕ). x ∷ xs) (r .here) (more .0), (bits-same g (k + l) base w (rw (← two-steps w k l, ← two-steps base k l) (r .above)), more .1))
 
   -- a word with the base's bits elsewhere is the base with its own fields
-  built : (top w : ℕ) (fs : List Field) → soundBelow top base fs ≡ true → FixedBelow top base w fs → w % 2 ^ top ≡ base % 2 ^ top + placed fs (fieldsOf fs w)
+  built : (top w : ℕ) (fs : List Field) → soundBelow top base fs ≡ true → FixedBelow top base w fs → w % 2 ^ top ≡ base % 2 ^ top + fieldSum fs (fieldValues fs w)
   built top w [] s h = (rw (div-one w, div-one base) at (same-bits top 0 base w h)) ∙ (omega arith)
   built top w (f ∷ fs) s h =
       let k = width f in
       let l = f .low in
       let g = top - (k + l) in
       let above : w / 2 ^ l / 2 ^ k % 2 ^ g ≡ base / 2 ^ l / 2 ^ k % 2 ^ g = rw (two-steps w k l, two-steps base k l) (same-bits g (k + l) base w (h .0)) in
-      subst (λ (n : ℕ). w % 2 ^ n ≡ base % 2 ^ n + ((w / 2 ^ l % 2 ^ k) * 2 ^ l + placed fs (fieldsOf fs w))) (sym (at-top top k l (fits-top top f fs s)))
-      (field-built w base g k l (placed fs (fieldsOf fs w)) (zero-here top f fs s) above (built l w fs (sound-rest top f fs s) (h .1)))
+      subst (λ (n : ℕ). w % 2 ^ n ≡ base % 2 ^ n + ((w / 2 ^ l % 2 ^ k) * 2 ^ l + fieldSum fs (fieldValues fs w))) (sym (at-top top k l (fits-top top f fs s)))
+      (field-built w base g k l (fieldSum fs (fieldValues fs w)) (zero-here top f fs s) above (built l w fs (sound-rest top f fs s) (h .1)))
 
 -- ---- rows
 
 -- the word matches the row
 abbrev pub Of : Row → ℕ → Type 0
-Of r w = w ≡ written r (fieldsOf (r .fields) w)
+Of r w = w ≡ rowWord r (fieldValues (r .fields) w)
 
 -- the bits of the word that are in no field of the row are those of its base
 abbrev pub Fixed : Row → ℕ → Type 0
@@ -178,25 +178,25 @@ module _ (r : Row) (s : sound r ≡ true) where
   sound-fields : soundBelow 32 (r .base) (r .fields) ≡ true
   sound-fields = and-right (leb (r .base) 4294967295) _ s
 
-  pub written-lt : (vs : List ℕ) → Fit (r .fields) vs → written r vs < 2 ^ 32
+  pub written-lt : (vs : List ℕ) → Fit (r .fields) vs → rowWord r vs < 2 ^ 32
   written-lt vs h = rw base-fits at (stays-below (r .base) 32 (r .fields) vs sound-fields h)
 
-  read-back : (vs : List ℕ) → Fit (r .fields) vs → (fieldsOf (r .fields) (written r vs) ≡ vs) × Fixed r (written r vs)
+  read-back : (vs : List ℕ) → Fit (r .fields) vs → (fieldValues (r .fields) (rowWord r vs) ≡ vs) × Fixed r (rowWord r vs)
   read-back vs h =
-      reads (r .base) 32 (written r vs) (r .fields) vs sound-fields h
-      (mod-eq-of-lt (written-lt vs h) ∙ ap (λ (b : ℕ). b + placed (r .fields) vs) (sym base-fits))
+      reads (r .base) 32 (rowWord r vs) (r .fields) vs sound-fields h
+      (mod-eq-of-lt (written-lt vs h) ∙ ap (λ (b : ℕ). b + fieldSum (r .fields) vs) (sym base-fits))
 
-  pub fields-written : (vs : List ℕ) → Fit (r .fields) vs → fieldsOf (r .fields) (written r vs) ≡ vs
+  pub fields-written : (vs : List ℕ) → Fit (r .fields) vs → fieldValues (r .fields) (rowWord r vs) ≡ vs
   fields-written vs h = read-back vs h .0
 
-  pub of-written : (vs : List ℕ) → Fit (r .fields) vs → Of r (written r vs)
-  of-written vs h = ap (written r) (sym (fields-written vs h))
+  pub of-written : (vs : List ℕ) → Fit (r .fields) vs → Of r (rowWord r vs)
+  of-written vs h = ap (rowWord r) (sym (fields-written vs h))
 
   pub of-lt : (w : ℕ) → Of r w → w < 2 ^ 32
-  of-lt w e = rw (sym e) at (written-lt (fieldsOf (r .fields) w) (fields-fit (r .fields) w))
+  of-lt w e = rw (sym e) at (written-lt (fieldValues (r .fields) w) (fields-fit (r .fields) w))
 
   pub matches-fixed : (w : ℕ) → Of r w → Fixed r w
-  matches-fixed w e = subst (Fixed r) (sym e) (read-back (fieldsOf (r .fields) w) (fields-fit (r .fields) w) .1)
+  matches-fixed w e = subst (Fixed r) (sym e) (read-back (fieldValues (r .fields) w) (fields-fit (r .fields) w) .1)
 
   pub fixed-matches : (w : ℕ) → w < 2 ^ 32 → Fixed r w → Of r w
-  fixed-matches w h f = sym (mod-eq-of-lt h) ∙ built (r .base) 32 w (r .fields) sound-fields f ∙ ap (λ (b : ℕ). b + placed (r .fields) (fieldsOf (r .fields) w)) base-fits
+  fixed-matches w h f = sym (mod-eq-of-lt h) ∙ built (r .base) 32 w (r .fields) sound-fields f ∙ ap (λ (b : ℕ). b + fieldSum (r .fields) (fieldValues (r .fields) w)) base-fits

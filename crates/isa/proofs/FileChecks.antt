@@ -10,7 +10,8 @@ use lib.ListN.{length, take, drop}
 use lib.Dec.{ltb, eqb}
 use borrow.Author.Tests.{ltb-true, lt-ltb, le-ltb, eqb-true, eq-eqb, ne-eqb}
 use Rattle.isa.specs.declared.types.Checked.{Checked}
-use Rattle.isa.specs.File.{legal, pickChecked, checkOf, registerAfter, registerCheck, registerOf}
+use Rattle.isa.specs.declared.types.Asked.{Asked}
+use Rattle.isa.specs.File.{legal, pickChecked, checkOf, pickAsked, registerAfter, registerCheck, registerOf}
 use Rattle.isa.proofs.File.{Legal, legal-exact, cases}
 
 -- ---- lengths that are not legal
@@ -51,23 +52,22 @@ module _ (L size : ℕ) where
 -- ---- then 6
 
 module _ (L size r : ℕ) where
-  pub register-passed : checkOf L size ≡ Checked.Passed → r < 32 → registerCheck L size r ≡ Checked.Passed
+  pub register-found : checkOf L size ≡ Checked.Passed → r < 32 → registerCheck L size r ≡ Asked.Found
   unfolding registerCheck
-  register-passed e h = rw (e, lt-ltb r 32 h)
+  register-found e h = rw (e, lt-ltb r 32 h)
 
-  pub register-none : checkOf L size ≡ Checked.Passed → 32 ≤ r → registerCheck L size r ≡ Checked.NoRegister
+  pub register-none : checkOf L size ≡ Checked.Passed → 32 ≤ r → registerCheck L size r ≡ Asked.NoRegister
   unfolding registerCheck
   register-none e h = rw (e, le-ltb r 32 h)
 
-  below : (b : Bool) → pickChecked b Checked.Passed Checked.NoRegister ≡ Checked.Passed → b ≡ true
+  below : (b : Bool) → pickAsked b Asked.Found Asked.NoRegister ≡ Asked.Found → b ≡ true
   below true h = refl
   below false h = let z : _≡_ {A = ℕ} 0 1 = cc in absurd (omega arith)
 
-  after-passed : (k : Checked) → registerAfter k r ≡ Checked.Passed → (k ≡ Checked.Passed) × (r < 32)
+  after-passed : (k : Checked) → registerAfter k r ≡ Asked.Found → (k ≡ Checked.Passed) × (r < 32)
   after-passed Checked.Passed h = (refl, ltb-true r 32 (below (ltb r 32) h))
   after-passed Checked.BadLength h = let z : _≡_ {A = ℕ} 0 1 = cc in absurd (omega arith)
   after-passed Checked.BadSize h = let z : _≡_ {A = ℕ} 0 1 = cc in absurd (omega arith)
-  after-passed Checked.NoRegister h = let z : _≡_ {A = ℕ} 0 1 = cc in absurd (omega arith)
 
   -- a register that is handed out: the length is short, and the register ends within the file
   pub record Given : Type 0 where
@@ -75,7 +75,7 @@ module _ (L size r : ℕ) where
     pub below : r < 32
     pub ends : r * (L / 8) + L / 8 ≤ size
 
-  pub register-ends : registerCheck L size r ≡ Checked.Passed → Given
+  pub register-ends : registerCheck L size r ≡ Asked.Found → Given
   unfolding registerCheck
   register-ends h =
       let k = after-passed (checkOf L size) h in
@@ -85,15 +85,15 @@ module _ (L size r : ℕ) where
 
 module _ (L : ℕ) (file : List ℕ) (r : ℕ) where
   -- the part from its start to its end
-  pub register-given : registerCheck L (length file) r ≡ Checked.Passed →
+  pub register-given : registerCheck L (length file) r ≡ Asked.Found →
       take (r * (L / 8) + L / 8 - r * (L / 8)) (drop (r * (L / 8)) file) ≡ registerOf L file r
   unfolding registerOf
   register-given e = rw (e, add-sub-cancel-left (r * (L / 8)) (L / 8))
 
   -- a refusal hands out the empty part
-  pub register-refused : (k : Checked) → registerCheck L (length file) r ≡ k → (k ≡ Checked.Passed → ⊥) → [] ≡ registerOf L file r
+  pub register-refused : (k : Asked) → registerCheck L (length file) r ≡ k → (k ≡ Asked.Found → ⊥) → [] ≡ registerOf L file r
   unfolding registerOf
-  register-refused Checked.Passed e bad = absurd (bad refl)
-  register-refused Checked.BadLength e bad = rw e
-  register-refused Checked.BadSize e bad = rw e
-  register-refused Checked.NoRegister e bad = rw e
+  register-refused Asked.Found e bad = absurd (bad refl)
+  register-refused Asked.BadLength e bad = rw e
+  register-refused Asked.BadSize e bad = rw e
+  register-refused Asked.NoRegister e bad = rw e

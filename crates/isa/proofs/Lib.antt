@@ -19,6 +19,7 @@ pub mod Progress
 pub mod Run
 pub mod Going
 pub mod Order
+pub mod Returned
 pub mod Fits
 pub mod Agnostic
 pub mod Sources

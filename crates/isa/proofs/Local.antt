@@ -146,13 +146,19 @@ unfolding own
 own-small z p h = h
 
 pub count-small : (l : Form) (z : Size) → laneCount l z ≤ 2 * pairs z
-unfolding laneCount pairs
+unfolding laneCount pairs bits bytes
 count-small Scalar B = omega arith
 count-small Scalar H = omega arith
 count-small Scalar S = omega arith
 count-small Scalar D = omega arith
-count-small Vector64 z = omega arith
-count-small Vector128 z = omega arith
+count-small Vector64 B = omega arith
+count-small Vector64 H = omega arith
+count-small Vector64 S = omega arith
+count-small Vector64 D = omega arith
+count-small Vector128 B = omega arith
+count-small Vector128 H = omega arith
+count-small Vector128 S = omega arith
+count-small Vector128 D = omega arith
 
 pub any-local : (n : ℕ) (f g : ℕ → Bool) → ((e : ℕ) → e < n → f e ≡ g e) → anyBelow n f ≡ anyBelow n g
 unfolding anyBelow

@@ -13,7 +13,7 @@ use Rattle.isa.specs.Register.{Bytes, Size, B, H, S, D, bytes, bits, pai
 use Rattle.isa.specs.Meaning.{Rotation, R0, R90, R180, R270, pairBytes, part, each, each₂, product, turned, own, indexed}
 use Rattle.isa.proofs.Local.{lane-small}
 use Rattle.isa.specs.Segment.{bytesOf, Segment}
-use Rattle.isa.specs.Stage.{lane, crossed, minusReal, minusImaginary, firstPlace, secondPlace, indexPlace, minusAt, LanesOf, Taken, Worked, Added, Stored}
+use Rattle.isa.specs.Stage.{lane, crossed, minusReal, minusImaginary, firstPlace, secondPlace, indexPlace, minusAt, LanesOf, Taken, Multiplied, Added, BytesOfLanes}
 
 -- ---- lane k of the pair p of a product form, with the pair q of the second source
 
@@ -85,8 +85,8 @@ pair-of S i = omega arith
 pair-of D i = omega arith
 
 -- the lane of the second source, where pair p takes its pair `choose p`
-abbrev pub secondOf : (ℕ → ℕ) → Bool → ℕ → ℕ
-secondOf choose t e = 2 * choose (e / 2) + cond t (1 - e % 2) (e % 2)
+abbrev pub secondLane : (ℕ → ℕ) → Bool → ℕ → ℕ
+secondLane choose t e = 2 * choose (e / 2) + cond t (1 - e % 2) (e % 2)
 
 -- the bytes of lanes `out`, where lane e has the bits of part e of its pair's result
 module _ (z : Size) (choose : ℕ → ℕ) (result : Complex → Complex → Complex → Complex) (c n m : Bytes) (out : ℕ → ℤ) where
@@ -101,10 +101,10 @@ module _ (z : Size) (choose : ℕ → ℕ) (result : Complex → Complex → Com
 -- part e of the result of a product form, and of a sum, by lanes
 product-lane : (z : Size) (choose : ℕ → ℕ) (f : ℤ → ℤ → ℤ) (r : Rotation) (c n m : Bytes) (e : ℕ) →
     part (e % 2) (each₂ f (complex z c (e / 2)) (product r (complex z n (e / 2)) (complex z m (choose (e / 2)))))
-    ≡ f (element z c e) (signedBy (minusAt (minusReal r) (minusImaginary r) e) (element z n (firstPlace (crossed r) e) *ℤ element z m (secondOf choose (crossed r) e)))
+    ≡ f (element z c e) (signedBy (minusAt (minusReal r) (minusImaginary r) e) (element z n (firstPlace (crossed r) e) *ℤ element z m (secondLane choose (crossed r) e)))
 product-lane z choose f r c n m e =
     lane-of z f r c n m (e / 2) (choose (e / 2)) (e % 2) (omega arith)
-    ∙ ap₂ f (ap (element z c) (omega arith)) (ap₂ signedBy (minus-is (minusReal r) (minusImaginary r) e) (ap (λ x. element z n x *ℤ element z m (secondOf choose (crossed r) e)) (first-is (crossed r) e)))
+    ∙ ap₂ f (ap (element z c) (omega arith)) (ap₂ signedBy (minus-is (minusReal r) (minusImaginary r) e) (ap (λ x. element z n x *ℤ element z m (secondLane choose (crossed r) e)) (first-is (crossed r) e)))
 
 turned-part : (r : Rotation) (a b : Complex) (k : ℕ) → k < 2 → part k (turned r a b) ≡ part k a +ℤ signedBy (minusAt (minusReal r) (minusImaginary r) k) (part (cond (crossed r) (1 - k) k) b)
 unfolding turned part minusAt
@@ -141,7 +141,7 @@ second-below false e P h = h
 
 -- The second source's lanes t, as pair p takes them from its pair `choose p`.
 pub record Second (z : Size) (choose : ℕ → ℕ) (odd : Bool) (t : List ℤ) (m : Bytes) : Type 0 where
-  pub at : (e : ℕ) → e < 2 * pairs z → lane t e ≡ element z m (secondOf choose odd e)
+  pub at : (e : ℕ) → e < 2 * pairs z → lane t e ≡ element z m (secondLane choose odd e)
 
 -- its own pair
 pub own-second : (z : Size) (odd : Bool) {ml t : List ℤ} {m : Bytes} → LanesOf z ml m → Taken z t ml (secondPlace odd) → Second z own odd t m
@@ -179,7 +179,7 @@ pub products : (z : Size) (choose : ℕ → ℕ) (f g : ℤ → ℤ → ℤ) →
     {c n m s : List ℕ} {x nl y t out : List ℤ} {odd real imaginary : Bool} →
     odd ≡ crossed r → real ≡ minusReal r → imaginary ≡ minusImaginary r →
     LanesOf z x (bytesOf c) → LanesOf z nl (bytesOf n) → Taken z y nl (firstPlace odd) → Second z choose odd t (bytesOf m) →
-    Worked z g out x y t real imaginary → Stored z s out → Segment z choose (λ c n m. each₂ f c (product r n m)) s c n m
+    Multiplied z g out x y t real imaginary → BytesOfLanes z s out → Segment z choose (λ c n m. each₂ f c (product r n m)) s c n m
 products z choose f g same r {c} {n} {m} {s} {x} {nl} {y} {t} {out} {odd} {real} {imaginary} eo er ei hx hn hy ht ho hs =
     record { sized = hs .sized; at = (λ i l. hs .at i l ∙ segment z choose (λ c n m. each₂ f c (product r n m)) (bytesOf c) (bytesOf n) (bytesOf m) (lane out) results i l) }
   where
@@ -191,7 +191,7 @@ products z choose f g same r {c} {n} {m} {s} {x} {nl} {y} {t} {out} {odd} {real}
         (ap₂ signedBy (ap₂ (λ a b. minusAt a b e) er ei)
         (ap₂ _*ℤ_
         (hy .at e h ∙ ap (λ (o : Bool). lane nl (firstPlace o e)) eo ∙ hn .at (firstPlace (crossed r) e) (first-below (crossed r) e (pairs z) h))
-        (ht .at e h ∙ ap (λ (o : Bool). element z (bytesOf m) (secondOf choose o e)) eo)))
+        (ht .at e h ∙ ap (λ (o : Bool). element z (bytesOf m) (secondLane choose o e)) eo)))
         ∙ sym (product-lane z choose f r (bytesOf c) (bytesOf n) (bytesOf m) e))
 
 part-map : (k : ℤ → ℤ) (a : Complex) (j : ℕ) → part j (each k a) ≡ k (part j a)
@@ -204,7 +204,7 @@ pub sums : (z : Size) (k : ℤ → ℤ) (g : ℤ → ℤ → ℤ) → ((a b : �
     {c m s : List ℕ} {x ml t out : List ℤ} {odd real imaginary : Bool} →
     odd ≡ crossed r → real ≡ minusReal r → imaginary ≡ minusImaginary r →
     LanesOf z x (bytesOf c) → LanesOf z ml (bytesOf m) → Taken z t ml (secondPlace odd) →
-    Added z g out x t real imaginary → Stored z s out → Segment z own (λ a _ b. each k (turned r a b)) s c c m
+    Added z g out x t real imaginary → BytesOfLanes z s out → Segment z own (λ a _ b. each k (turned r a b)) s c c m
 unfolding own
 sums z k g same r {c} {m} {s} {x} {ml} {t} {out} {odd} {real} {imaginary} eo er ei hx hm ht ho hs =
     record { sized = hs .sized; at = (λ i l. hs .at i l ∙ segment z own (λ a _ b. each k (turned r a b)) (bytesOf c) (bytesOf c) (bytesOf m) (lane out) results i l) }

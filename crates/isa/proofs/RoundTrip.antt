@@ -17,10 +17,10 @@ use Rattle.isa.specs.declared.types.ByElement.{ByElement}
 use Rattle.isa.specs.declared.types.Op.{Op}
 use Rattle.isa.specs.declared.types.Decoded.{Decoded}
 use Rattle.isa.specs.declared.types.Written.{Written}
-use Rattle.isa.specs.Field.{Row, bits, fieldsOf, written}
-use Rattle.isa.specs.Table.{size, Q, i2, i1, ZmH, ZmS, scalarRow, vectorRow, elementFields, cadd, sqcadd, cmla, sqrdcmlah, cmlaH, cmlaS, sqrdcmlahH, sqrdcmlahS}
+use Rattle.isa.specs.Field.{Row, fieldValue, fieldValues, rowWord}
+use Rattle.isa.specs.Table.{size, Q, i2, i1, ZmH, ZmS, scalarRow, vectorRow, elementRowFields, cadd, sqcadd, cmla, sqrdcmlah, cmlaH, cmlaS, sqrdcmlahH, sqrdcmlahS}
 use Rattle.isa.specs.Decode.{table, decodeOf, addOf, mulOf, indexedOf, elementOf, vectorOf, sizeOf}
-use Rattle.isa.specs.Encode.{encodeOf, checksOf, indexedChecks, elementChecks, elementFieldsOf, formWritten, halfOrSingle, bySize}
+use Rattle.isa.specs.Encode.{encodeOf, checksOf, indexedChecks, elementChecks, elementFieldsOf, formWord, halfOrSingle, bySize}
 use Rattle.isa.proofs.Fields.{sound, Of, Fit, of-written, of-lt, fields-written}
 use Rattle.isa.proofs.Table.{_⨾_, row-read, by-row}
 use Rattle.isa.proofs.Checks.{Passed, word-exact}
@@ -55,14 +55,14 @@ known : (w : ℕ) (a op : Op) → Passed (checksOf a) w → Decoded.Operation a 
 known w a op p e = ap encodeOf (sym (same-op a op e)) ∙ word-exact a w .1 p
 
 module _ (mk : ByElement → Op) (scalar vector : ℕ) (means : (a : ByElement) → checksOf (mk a) ≡ elementChecks (scalarRow scalar) (vectorRow vector) a) where
-  element-back : (f : Form) (w n : ℕ) → bits size w ≡ n → w ≡ formWritten (scalarRow scalar) (vectorRow vector) f (fieldsOf elementFields w) → (op : Op) → elementOf mk f w (sizeOf n) ≡ Decoded.Operation op → encodeOf op ≡ Written.Word w
+  element-back : (f : Form) (w n : ℕ) → fieldValue size w ≡ n → w ≡ formWord (scalarRow scalar) (vectorRow vector) f (fieldValues elementRowFields w) → (op : Op) → elementOf mk f w (sizeOf n) ≡ Decoded.Operation op → encodeOf op ≡ Written.Word w
   element-back f w zero s e op k = absurd (not-reserved op k)
   element-back f w (suc zero) s e op k = known w (mk (elementH f w)) op (rw means (elementH-back scalar vector f w e s)) k
   element-back f w (suc (suc zero)) s e op k = known w (mk (elementS f w)) op (rw means (elementS-back scalar vector f w e s)) k
   element-back f w (suc (suc (suc n))) s e op k = absurd (not-reserved op k)
 
 -- the word of a vector form, by Q
-vector-form : (scalar vector q : ℕ) (vs : List ℕ) → q < 2 → written (vectorRow vector) (q ∷ vs) ≡ formWritten (scalarRow scalar) (vectorRow vector) (vectorOf q) vs
+vector-form : (scalar vector q : ℕ) (vs : List ℕ) → q < 2 → rowWord (vectorRow vector) (q ∷ vs) ≡ formWord (scalarRow scalar) (vectorRow vector) (vectorOf q) vs
 vector-form scalar vector zero vs h = refl
 vector-form scalar vector (suc zero) vs h = refl
 vector-form scalar vector (suc (suc q)) vs h = absurd (omega arith)
@@ -72,7 +72,7 @@ unfolding decodeOf checksOf
 decode-encode w op =
     let mlah = element-back Op.Sqrdmlah 0x7F00_D000 0x2F00_D000 (λ a. refl) in
     let mlsh = element-back Op.Sqrdmlsh 0x7F00_F000 0x2F00_F000 (λ a. refl) in
-    let vector : (s v : ℕ) → Of (vectorRow v) w → w ≡ formWritten (scalarRow s) (vectorRow v) (vectorOf (bits Q w)) (fieldsOf elementFields w) = λ s v e. e ∙ vector-form s v (bits Q w) (fieldsOf elementFields w) (omega arith) in
+    let vector : (s v : ℕ) → Of (vectorRow v) w → w ≡ formWord (scalarRow s) (vectorRow v) (vectorOf (fieldValue Q w)) (fieldValues elementRowFields w) = λ s v e. e ∙ vector-form s v (fieldValue Q w) (fieldValues elementRowFields w) (omega arith) in
     by-row table w (Decoded.Operation op) (encodeOf op ≡ Written.Word w)
     ((λ e k. known w (Op.Cadd (addOf w)) op (add-back 0x4500_D800 w e) k) ⨾
     (λ e k. known w (Op.Sqcadd (addOf w)) op (add-back 0x4501_D800 w e) k) ⨾
@@ -82,10 +82,10 @@ decode-encode w op =
     (λ e k. known w (Op.CmlaIndexed (indexedOf Size.S i1 ZmS w)) op (indexed-back cmlaH cmlaS Size.S i1 ZmS 0x44E0_6000 w cmla-at-S e) k) ⨾
     (λ e k. known w (Op.SqrdcmlahIndexed (indexedOf Size.H i2 ZmH w)) op (indexed-back sqrdcmlahH sqrdcmlahS Size.H i2 ZmH 0x44A0_7000 w sqrdcmlah-at-H e) k) ⨾
     (λ e k. known w (Op.SqrdcmlahIndexed (indexedOf Size.S i1 ZmS w)) op (indexed-back sqrdcmlahH sqrdcmlahS Size.S i1 ZmS 0x44E0_7000 w sqrdcmlah-at-S e) k) ⨾
-    (λ e k. mlah (vectorOf (bits Q w)) w (bits size w) refl (vector 0x7F00_D000 0x2F00_D000 e) op k) ⨾
-    (λ e k. mlah Form.Scalar w (bits size w) refl e op k) ⨾
-    (λ e k. mlsh (vectorOf (bits Q w)) w (bits size w) refl (vector 0x7F00_F000 0x2F00_F000 e) op k) ⨾
-    (λ e k. mlsh Form.Scalar w (bits size w) refl e op k) ⨾ tt)
+    (λ e k. mlah (vectorOf (fieldValue Q w)) w (fieldValue size w) refl (vector 0x7F00_D000 0x2F00_D000 e) op k) ⨾
+    (λ e k. mlah Form.Scalar w (fieldValue size w) refl e op k) ⨾
+    (λ e k. mlsh (vectorOf (fieldValue Q w)) w (fieldValue size w) refl (vector 0x7F00_F000 0x2F00_F000 e) op k) ⨾
+    (λ e k. mlsh Form.Scalar w (fieldValue size w) refl e op k) ⨾ tt)
     (λ none k. absurd (not-outside op k))
 
 -- ---- from an operation to its word and back
@@ -113,33 +113,33 @@ module _ (mk : MulIndexed → Op) (h s : Row) (baseH baseS w : ℕ)
 
 module _ (mk : ByElement → Op) (scalar vector w : ℕ)
     (sound-scalar : sound (scalarRow scalar) ≡ true) (sound-vector : sound (vectorRow vector) ≡ true)
-    (read-scalar : Of (scalarRow scalar) w → decodeOf w ≡ elementOf mk Form.Scalar w (sizeOf (bits size w)))
-    (read-vector : Of (vectorRow vector) w → decodeOf w ≡ elementOf mk (vectorOf (bits Q w)) w (sizeOf (bits size w)))
+    (read-scalar : Of (scalarRow scalar) w → decodeOf w ≡ elementOf mk Form.Scalar w (sizeOf (fieldValue size w)))
+    (read-vector : Of (vectorRow vector) w → decodeOf w ≡ elementOf mk (vectorOf (fieldValue Q w)) w (sizeOf (fieldValue size w)))
     (a : ByElement) (p : Passed (elementChecks (scalarRow scalar) (vectorRow vector) a) w) where
-  fits : Fit elementFields (elementFieldsOf a)
+  fits : Fit elementRowFields (elementFieldsOf a)
   fits =
       let r = registers-in (a .rm) (bySize 15 31 (a .size)) (a .rn) (a .rd) (p .registers) in
       element-fits mk (a .form) (a .rm) (a .index) (a .rn) (a .rd) (a .size) (p .size) (r .second-in) (r .n-in) (r .d-in) (p .index)
 
   -- a vector form, by Q
-  vector-reads : (q : ℕ) → q < 2 → written (vectorRow vector) (q ∷ elementFieldsOf a) ≡ w → (vectorOf q ≡ a .form) → Reads w (mk a)
+  vector-reads : (q : ℕ) → q < 2 → rowWord (vectorRow vector) (q ∷ elementFieldsOf a) ≡ w → (vectorOf q ≡ a .form) → Reads w (mk a)
   vector-reads q hq word form =
       let vs = q ∷ elementFieldsOf a in
       let o : Of (vectorRow vector) w = subst (Of (vectorRow vector)) word (of-written (vectorRow vector) sound-vector vs (hq, fits)) in
-      let e : fieldsOf (Q ∷ elementFields) w ≡ vs = subst (λ (x : ℕ). fieldsOf (Q ∷ elementFields) x ≡ vs) word (fields-written (vectorRow vector) sound-vector vs (hq, fits)) in
-      let f : vectorOf (bits Q w) ≡ a .form = ap (λ (xs : List ℕ). vectorOf (getD xs 0 0)) e ∙ form in (
+      let e : fieldValues (Q ∷ elementRowFields) w ≡ vs = subst (λ (x : ℕ). fieldValues (Q ∷ elementRowFields) x ≡ vs) word (fields-written (vectorRow vector) sound-vector vs (hq, fits)) in
+      let f : vectorOf (fieldValue Q w) ≡ a .form = ap (λ (xs : List ℕ). vectorOf (getD xs 0 0)) e ∙ form in (
         of-lt (vectorRow vector) sound-vector w o,
-        read-vector o ∙ ap (λ (x : Form). elementOf mk x w (sizeOf (bits size w))) f
+        read-vector o ∙ ap (λ (x : Form). elementOf mk x w (sizeOf (fieldValue size w))) f
             ∙ element-is mk (a .form) (a .rm) (a .index) (a .rn) (a .rd) (a .size) w (p .size) (ap (drop 1) e),
       )
 
-  element-reads : (f : Form) → f ≡ a .form → formWritten (scalarRow scalar) (vectorRow vector) f (elementFieldsOf a) ≡ w → Reads w (mk a)
+  element-reads : (f : Form) → f ≡ a .form → formWord (scalarRow scalar) (vectorRow vector) f (elementFieldsOf a) ≡ w → Reads w (mk a)
   element-reads Form.Scalar form word =
       let vs = elementFieldsOf a in
       let o : Of (scalarRow scalar) w = subst (Of (scalarRow scalar)) word (of-written (scalarRow scalar) sound-scalar vs fits) in
-      let e : fieldsOf elementFields w ≡ vs = subst (λ (x : ℕ). fieldsOf elementFields x ≡ vs) word (fields-written (scalarRow scalar) sound-scalar vs fits) in (
+      let e : fieldValues elementRowFields w ≡ vs = subst (λ (x : ℕ). fieldValues elementRowFields x ≡ vs) word (fields-written (scalarRow scalar) sound-scalar vs fits) in (
         of-lt (scalarRow scalar) sound-scalar w o,
-        read-scalar o ∙ ap (λ (x : Form). elementOf mk x w (sizeOf (bits size w))) form
+        read-scalar o ∙ ap (λ (x : Form). elementOf mk x w (sizeOf (fieldValue size w))) form
             ∙ element-is mk (a .form) (a .rm) (a .index) (a .rn) (a .rd) (a .size) w (p .size) e,
       )
   element-reads Form.Vector64 form word = vector-reads 0 (omega arith) word form

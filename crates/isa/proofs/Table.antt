@@ -7,7 +7,7 @@ use mathlib.Core.List.{List, [], _∷_, _++_}
 use mathlib.Core.Bool.{Bool, true, false, _&&_}
 use borrow.Author.Tests.{eq-eqb, ne-eqb, eqb-true}
 use Rattle.isa.specs.declared.types.Decoded.{Decoded}
-use Rattle.isa.specs.Field.{Row, matches, written, fieldsOf}
+use Rattle.isa.specs.Field.{Row, matches, rowWord, fieldValues}
 use Rattle.isa.specs.Decode.{Entry, table, pick, first, decodeOf}
 use Rattle.isa.proofs.Fields.{sound, Of, Fixed, and-left, and-right, matches-fixed}
 use Rattle.isa.proofs.Apart.{apart, apart-never}

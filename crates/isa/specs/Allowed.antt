@@ -1,10 +1,10 @@
--- Which words are operations, reserved and outside, said by the rows alone.
+-- Which words are operations, and which are document 01's 'reserved' and 'outside the set', said by the rows alone.
 use Prim.Native.Nat.{ℕ}
 use mathlib.Core.Path.{_≡_}
 use mathlib.Core.List.{List, [], _∷_, _++_}
 use mathlib.Core.Bool.{true}
 use mathlib.Core.Logic.{_⊎_}
-use Rattle.isa.specs.Field.{Row, matches, bits}
+use Rattle.isa.specs.Field.{Row, matches, fieldValue}
 use Rattle.isa.specs.Table.{size, cadd, sqcadd, cmla, sqrdcmlah, cmlaH, cmlaS, sqrdcmlahH, sqrdcmlahS, sqrdmlahVector, sqrdmlahScalar, sqrdmlshVector, sqrdmlshScalar}
 
 -- the word matches some row of a list
@@ -22,11 +22,12 @@ elementRows = sqrdmlahVector ∷ sqrdmlahScalar ∷ sqrdmlshVector ∷ sqrdmlshS
 
 -- an operation of our families
 abbrev pub AllowedWord : ℕ → Type 0
-AllowedWord w = MatchesSome sveRows w ⊎ (MatchesSome elementRows w × ((bits size w ≡ 1) ⊎ (bits size w ≡ 2)))
+AllowedWord w = MatchesSome sveRows w ⊎ (MatchesSome elementRows w × ((fieldValue size w ≡ 1) ⊎ (fieldValue size w ≡ 2)))
 
--- the pages' UNDEFINED
+-- 'reserved', the pages' UNDEFINED: an Advanced SIMD row with size 00 or 11
 abbrev pub ReservedWord : ℕ → Type 0
-ReservedWord w = MatchesSome elementRows w × ((bits size w ≡ 0) ⊎ (bits size w ≡ 3))
+ReservedWord w = MatchesSome elementRows w × ((fieldValue size w ≡ 0) ⊎ (fieldValue size w ≡ 3))
 
+-- 'outside the set': of none of the rows
 abbrev pub OutsideWord : ℕ → Type 0
 OutsideWord w = MatchesSome (sveRows ++ elementRows) w → ⊥

@@ -1,4 +1,4 @@
--- Demand 3: runs at two vector lengths, and a run and its 128-bit segments run alone.
+-- Demand 3: runs at two vector lengths, a run and its 128-bit segments run alone, and the call that runs a program.
 use mathlib.Core.Path.{_≡_}
 use Prim.Native.Nat.{ℕ, _*_, _/_, _<_, _≤_, min}
 use mathlib.Core.Bool.{Bool, true, false}
@@ -8,18 +8,18 @@ use Rattle.isa.specs.Register.{segment}
 use Rattle.isa.specs.Decode.{decodeOf}
 use Rattle.isa.specs.Meaning.{advancedSimd}
 use Rattle.isa.specs.File.{legal, byteAt, fileOf}
-use Rattle.isa.specs.Run.{outcomeOf}
+use Rattle.isa.specs.Run.{start, run, outcomeOf}
 use Rattle.isa.specs.declared.types.Decoded.{Decoded}
 
--- two files, of the lengths L₁ and L₂, agree in the first `count` bytes of each register
+-- document 01's 'agree': two files, of the lengths L₁ and L₂, have the same first `count` bytes in each register
 unfoldable pub Agree : (count L₁ L₂ : ℕ) → List ℕ → List ℕ → Type 0
 Agree count L₁ L₂ f₁ f₂ = (r j : ℕ) → r < 32 → j < count → byteAt L₁ f₁ r j ≡ byteAt L₂ f₂ r j
 
--- segment k of a file of length L, run alone: bytes 16k to 16k+15 of each register, registers in order
+-- document 01's 'segment' k of a file of length L, to be run alone: bytes 16k to 16k+15 of each register, registers in order
 unfoldable pub segmentFile : ℕ → ℕ → List ℕ → List ℕ
 segmentFile L k file = fileOf 128 (segment k (byteAt L file))
 
--- the word decodes to an operation of SQRDMLAH or SQRDMLSH
+-- document 01's 'Advanced SIMD word': one that decodes to an operation of SQRDMLAH or SQRDMLSH
 abbrev pub simdDecoded : Decoded → Bool
 simdDecoded (Decoded.Operation op) = advancedSimd op
 simdDecoded Decoded.Reserved = false
@@ -53,3 +53,10 @@ pub record LengthAgnostic : Type 0 where
       (qc : Bool) →
       ((i : ℕ) → i < outcomeOf L file qc words .answer .done → simdWord (getD words i 0) ≡ false) →
       OneSegment words L k file qc
+  -- and the call that runs a program answers and leaves what the defined run does
+  pub defined :
+      (words : List ℕ) → length words ≤ 4096 →
+      (L : ℕ) → legal L ≡ true →
+      (file : List ℕ) → length file ≡ 4 * L →
+      (qc : Bool) →
+      outcomeOf L file qc words ≡ run L words (start file qc)

@@ -6,6 +6,7 @@ use lib.Dec.{leb, ltb, eqb}
 use lib.ListN.{length, getD, take, drop}
 use Rattle.isa.specs.Register.{Regs}
 use Rattle.isa.specs.declared.types.Checked.{Checked}
+use Rattle.isa.specs.declared.types.Asked.{Asked}
 
 -- a vector length in bits: a multiple of 128, from 128 to 2,048
 unfoldable pub legal : ℕ → Bool
@@ -34,21 +35,24 @@ pickChecked false a b = b
 unfoldable pub checkOf : ℕ → ℕ → Checked
 checkOf L size = pickChecked (legal L) (pickChecked (eqb size (4 * L)) Checked.Passed Checked.BadSize) Checked.BadLength
 
--- then 6
-abbrev pub registerAfter : Checked → ℕ → Checked
-registerAfter Checked.Passed r = pickChecked (ltb r 32) Checked.Passed Checked.NoRegister
-registerAfter Checked.BadLength r = Checked.BadLength
-registerAfter Checked.BadSize r = Checked.BadSize
-registerAfter Checked.NoRegister r = Checked.NoRegister
+abbrev pub pickAsked : Bool → Asked → Asked → Asked
+pickAsked true a b = a
+pickAsked false a b = b
 
-unfoldable pub registerCheck : ℕ → ℕ → ℕ → Checked
+-- then 6
+abbrev pub registerAfter : Checked → ℕ → Asked
+registerAfter Checked.Passed r = pickAsked (ltb r 32) Asked.Found Asked.NoRegister
+registerAfter Checked.BadLength r = Asked.BadLength
+registerAfter Checked.BadSize r = Asked.BadSize
+
+unfoldable pub registerCheck : ℕ → ℕ → ℕ → Asked
 registerCheck L size r = registerAfter (checkOf L size) r
 
-abbrev pub partIf : Checked → List ℕ → List ℕ
-partIf Checked.Passed part = part
-partIf Checked.BadLength part = []
-partIf Checked.BadSize part = []
-partIf Checked.NoRegister part = []
+abbrev pub partIf : Asked → List ℕ → List ℕ
+partIf Asked.Found part = part
+partIf Asked.BadLength part = []
+partIf Asked.BadSize part = []
+partIf Asked.NoRegister part = []
 
 -- the bytes of register r, nothing on a refusal
 unfoldable pub registerOf : ℕ → List ℕ → ℕ → List ℕ

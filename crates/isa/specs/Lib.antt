@@ -1,16 +1,22 @@
+-- What a reader has to believe, in the order of document 01.
+-- words: the form of a row, the table, which words are operations, decoding, writing
 pub mod Field
 pub mod Table
+pub mod Allowed
 pub mod Decode
 pub mod Encode
-pub mod Valid
-pub mod Allowed
-pub mod Number
+-- registers, lanes and operations; files and runs
 pub mod Register
 pub mod Meaning
-pub mod Segment
-pub mod Stage
-pub mod Cases
 pub mod File
 pub mod Run
+-- the numbers returned, demand 3, P1 to P12
+pub mod Number
+pub mod Returned
 pub mod Claim
+pub mod Cases
+-- Inner: what the code's functions say to each other. No claim rests on these, since the contract of every entry point is stated by the modules above.
+pub mod Valid
+pub mod Segment
+pub mod Stage
 pub mod Sources

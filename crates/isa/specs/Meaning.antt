@@ -70,11 +70,11 @@ pairBytes z choose result c n m j =
 
 -- ---- lanes by element
 
--- The lanes of an Advanced SIMD operation.
+-- The lanes of an Advanced SIMD operation: 1, 64/N or 128/N.
 unfoldable pub laneCount : Form → Size → ℕ
 laneCount Scalar z = 1
-laneCount Vector64 z = pairs z
-laneCount Vector128 z = 2 * pairs z
+laneCount Vector64 z = 64 / bits z
+laneCount Vector128 z = 128 / bits z
 
 -- What an Advanced SIMD operation leaves above the first 16 bytes of its destination, where the byte `old` was.
 unfoldable pub above : ℕ → ℕ

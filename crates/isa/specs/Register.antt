@@ -48,7 +48,7 @@ pub record Complex : Type 0 where
 unfoldable pub complex : Size → Bytes → ℕ → Complex
 complex z b p = record { re = element z b (2 * p); im = element z b (2 * p + 1) }
 
--- Bytes 16k on of a register, and of every register.
+-- Document 01's 'segment' k: bytes 16k to 16k + 15 of a register, and of every register.
 unfoldable pub window : ℕ → Bytes → Bytes
 window k b i = b (16 * k + i)
 

@@ -13,7 +13,7 @@ use Rattle.isa.specs.declared.types.Checked.{Checked}
 use Rattle.isa.specs.declared.types.Ending.{Ending}
 use Rattle.isa.specs.declared.types.Ran.{Ran}
 
--- the register file, the flag QC and the words done
+-- the register file, the flag QC and document 01's 'words done': those that were operations and were executed
 pub record State : Type 0 where
   pub file : List ℕ
   pub qc : Bool
@@ -59,8 +59,6 @@ abbrev pub checkedRun : Checked → ℕ → List ℕ → State → Outcome
 checkedRun Checked.Passed L words s = pickOutcome (ltb 4096 (length words)) (ended Ending.TooLong s) (run L words s)
 checkedRun Checked.BadLength L words s = ended Ending.BadLength s
 checkedRun Checked.BadSize L words s = ended Ending.BadSize s
--- not given by `checkOf`, which asks for no register
-checkedRun Checked.NoRegister L words s = ended Ending.BadSize s
 
 -- the whole call
 unfoldable pub outcomeOf : ℕ → List ℕ → Bool → List ℕ → Outcome

@@ -63,7 +63,7 @@ pub record Taken (z : Size) (s t : List ℤ) (place : ℕ → ℕ) : Type 0 wher
   pub at : (e : ℕ) → e < 2 * pairs z → lane s e ≡ lane t (place e)
 
 -- Lane e of s is f of lane e of x and of the product of lanes e of y and t, or its negative.
-pub record Worked (z : Size) (f : ℤ → ℤ → ℤ) (s x y t : List ℤ) (real imaginary : Bool) : Type 0 where
+pub record Multiplied (z : Size) (f : ℤ → ℤ → ℤ) (s x y t : List ℤ) (real imaginary : Bool) : Type 0 where
   pub at : (e : ℕ) → e < 2 * pairs z → lane s e ≡ f (lane x e) (signedBy (minusAt real imaginary e) (lane y e *ℤ lane t e))
 
 -- Lane e of s is f of lane e of x and of lane e of t, or its negative.
@@ -79,7 +79,7 @@ pub record Clamped (z : Size) (s t : List ℤ) : Type 0 where
   pub at : (e : ℕ) → e < 2 * pairs z → lane s e ≡ clamp (bits z) (lane t e)
 
 -- r holds the bytes of the lanes s.
-pub record Stored (z : Size) (r : List ℕ) (s : List ℤ) : Type 0 where
+pub record BytesOfLanes (z : Size) (r : List ℕ) (s : List ℤ) : Type 0 where
   pub sized : length r ≡ 16
   pub at : (i : ℕ) → i < 16 → bytesOf r i ≡ byteOf (bits z) (lane s (i / bytes z)) (i % bytes z)
 

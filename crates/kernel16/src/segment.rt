@@ -5,7 +5,7 @@ ghost use Rattle.integer.specs.Number.{clamps};
 ghost use Rattle.integer.specs.Lane.{saturated, wrapped, clamped};
 ghost use Rattle.isa.specs.Meaning.{anyBelow};
 ghost use Rattle.isa.specs.Segment.{bytesOf};
-ghost use Rattle.isa.specs.Stage.{LanesOf, Taken, Worked, Added, Stored, firstPlace, secondPlace, indexPlace, Summed, Clamped, lane};
+ghost use Rattle.isa.specs.Stage.{LanesOf, Taken, Multiplied, Added, BytesOfLanes, firstPlace, secondPlace, indexPlace, Summed, Clamped, lane};
 use crate::lane::add;
 use crate::lane::mla;
 use crate::lane::narrow;
@@ -31,7 +31,7 @@ pub fn lanes(b: [u8; 16]) -> [i16; 8]
 }
 
 pub fn bytes(s: [i16; 8]) -> [u8; 16]
-    ensures { λ r. ⌜ Stored Size.H r s ⌝ }
+    ensures { λ r. ⌜ BytesOfLanes Size.H r s ⌝ }
 {
     let mut r = [0u8; 16];
     for e in 0..8 {
@@ -78,7 +78,7 @@ pub fn repeated(m: [i16; 8], index: usize) -> [i16; 8]
 
 // Products, rounded and clamped.
 pub fn rounds(x: [i16; 8], y: [i16; 8], z: [i16; 8], real: bool, imaginary: bool) -> [i16; 8]
-    ensures { λ r. ⌜ Worked Size.H (saturated 16) r x y z real imaginary ⌝ }
+    ensures { λ r. ⌜ Multiplied Size.H (saturated 16) r x y z real imaginary ⌝ }
 {
     let mut r = [0i16; 8];
     for e in 0..8 {
@@ -89,7 +89,7 @@ pub fn rounds(x: [i16; 8], y: [i16; 8], z: [i16; 8], real: bool, imaginary: bool
 
 // Products, modulo 2^16.
 pub fn mlas(x: [i16; 8], y: [i16; 8], z: [i16; 8], real: bool, imaginary: bool) -> [i16; 8]
-    ensures { λ r. ⌜ Worked Size.H (wrapped 16) r x y z real imaginary ⌝ }
+    ensures { λ r. ⌜ Multiplied Size.H (wrapped 16) r x y z real imaginary ⌝ }
 {
     let mut r = [0i16; 8];
     for e in 0..8 {

@@ -5,7 +5,7 @@ ghost use Rattle.integer.specs.Number.{clamps};
 ghost use Rattle.integer.specs.Lane.{saturated, wrapped, clamped};
 ghost use Rattle.isa.specs.Meaning.{anyBelow};
 ghost use Rattle.isa.specs.Segment.{bytesOf};
-ghost use Rattle.isa.specs.Stage.{LanesOf, Taken, Worked, Added, Stored, firstPlace, secondPlace, indexPlace, Summed, Clamped, lane};
+ghost use Rattle.isa.specs.Stage.{LanesOf, Taken, Multiplied, Added, BytesOfLanes, firstPlace, secondPlace, indexPlace, Summed, Clamped, lane};
 use crate::lane::add;
 use crate::lane::mla;
 use crate::lane::narrow;
@@ -32,7 +32,7 @@ pub fn lanes(b: [u8; 16]) -> [i32; 4]
 }
 
 pub fn bytes(s: [i32; 4]) -> [u8; 16]
-    ensures { λ r. ⌜ Stored Size.S r s ⌝ }
+    ensures { λ r. ⌜ BytesOfLanes Size.S r s ⌝ }
 {
     let mut r = [0u8; 16];
     for e in 0..4 {
@@ -82,7 +82,7 @@ pub fn repeated(m: [i32; 4], index: usize) -> [i32; 4]
 
 // Products, rounded and clamped.
 pub fn rounds(x: [i32; 4], y: [i32; 4], z: [i32; 4], real: bool, imaginary: bool) -> [i32; 4]
-    ensures { λ r. ⌜ Worked Size.S (saturated 32) r x y z real imaginary ⌝ }
+    ensures { λ r. ⌜ Multiplied Size.S (saturated 32) r x y z real imaginary ⌝ }
 {
     let mut r = [0i32; 4];
     for e in 0..4 {
@@ -93,7 +93,7 @@ pub fn rounds(x: [i32; 4], y: [i32; 4], z: [i32; 4], real: bool, imaginary: bool
 
 // Products, modulo 2^32.
 pub fn mlas(x: [i32; 4], y: [i32; 4], z: [i32; 4], real: bool, imaginary: bool) -> [i32; 4]
-    ensures { λ r. ⌜ Worked Size.S (wrapped 32) r x y z real imaginary ⌝ }
+    ensures { λ r. ⌜ Multiplied Size.S (wrapped 32) r x y z real imaginary ⌝ }
 {
     let mut r = [0i32; 4];
     for e in 0..4 {

@@ -2,7 +2,7 @@
 ghost use mathlib.Core.Path.{_≡_};
 ghost use Rattle.integer.specs.Lane.{saturated, wrapped, clamped};
 ghost use Rattle.isa.specs.Segment.{bytesOf};
-ghost use Rattle.isa.specs.Stage.{LanesOf, Taken, Worked, Added, Stored, firstPlace, secondPlace};
+ghost use Rattle.isa.specs.Stage.{LanesOf, Taken, Multiplied, Added, BytesOfLanes, firstPlace, secondPlace};
 use crate::lane::add;
 use crate::lane::mla;
 use crate::lane::round;
@@ -23,7 +23,7 @@ pub fn lanes(b: [u8; 16]) -> [i64; 2]
 }
 
 pub fn bytes(s: [i64; 2]) -> [u8; 16]
-    ensures { λ r. ⌜ Stored Size.D r s ⌝ }
+    ensures { λ r. ⌜ BytesOfLanes Size.D r s ⌝ }
 {
     let mut r = [0u8; 16];
     for e in 0..2 {
@@ -65,7 +65,7 @@ pub fn turned(m: [i64; 2], odd: bool) -> [i64; 2]
 
 // Products, rounded and clamped.
 pub fn rounds(x: [i64; 2], y: [i64; 2], z: [i64; 2], real: bool, imaginary: bool) -> [i64; 2]
-    ensures { λ r. ⌜ Worked Size.D (saturated 64) r x y z real imaginary ⌝ }
+    ensures { λ r. ⌜ Multiplied Size.D (saturated 64) r x y z real imaginary ⌝ }
 {
     let mut r = [0i64; 2];
     for e in 0..2 {
@@ -76,7 +76,7 @@ pub fn rounds(x: [i64; 2], y: [i64; 2], z: [i64; 2], real: bool, imaginary: bool
 
 // Products, modulo 2^64.
 pub fn mlas(x: [i64; 2], y: [i64; 2], z: [i64; 2], real: bool, imaginary: bool) -> [i64; 2]
-    ensures { λ r. ⌜ Worked Size.D (wrapped 64) r x y z real imaginary ⌝ }
+    ensures { λ r. ⌜ Multiplied Size.D (wrapped 64) r x y z real imaginary ⌝ }
 {
     let mut r = [0i64; 2];
     for e in 0..2 {

@@ -2,7 +2,7 @@
 ghost use mathlib.Core.Path.{_≡_};
 ghost use Rattle.integer.specs.Lane.{saturated, wrapped, clamped};
 ghost use Rattle.isa.specs.Segment.{bytesOf};
-ghost use Rattle.isa.specs.Stage.{LanesOf, Taken, Worked, Added, Stored, firstPlace, secondPlace};
+ghost use Rattle.isa.specs.Stage.{LanesOf, Taken, Multiplied, Added, BytesOfLanes, firstPlace, secondPlace};
 use crate::lane::add;
 use crate::lane::mla;
 use crate::lane::round;
@@ -24,7 +24,7 @@ pub fn lanes(b: [u8; 16]) -> [i8; 16]
 }
 
 pub fn bytes(s: [i8; 16]) -> [u8; 16]
-    ensures { λ r. ⌜ Stored Size.B r s ⌝ }
+    ensures { λ r. ⌜ BytesOfLanes Size.B r s ⌝ }
 {
     let mut r = [0u8; 16];
     for e in 0..16 {
@@ -57,7 +57,7 @@ pub fn turned(m: [i8; 16], odd: bool) -> [i8; 16]
 
 // Products, rounded and clamped.
 pub fn rounds(x: [i8; 16], y: [i8; 16], z: [i8; 16], real: bool, imaginary: bool) -> [i8; 16]
-    ensures { λ r. ⌜ Worked Size.B (saturated 8) r x y z real imaginary ⌝ }
+    ensures { λ r. ⌜ Multiplied Size.B (saturated 8) r x y z real imaginary ⌝ }
 {
     let mut r = [0i8; 16];
     for e in 0..16 {
@@ -68,7 +68,7 @@ pub fn rounds(x: [i8; 16], y: [i8; 16], z: [i8; 16], real: bool, imaginary: bool
 
 // Products, modulo 2^8.
 pub fn mlas(x: [i8; 16], y: [i8; 16], z: [i8; 16], real: bool, imaginary: bool) -> [i8; 16]
-    ensures { λ r. ⌜ Worked Size.B (wrapped 8) r x y z real imaginary ⌝ }
+    ensures { λ r. ⌜ Multiplied Size.B (wrapped 8) r x y z real imaginary ⌝ }
 {
     let mut r = [0i8; 16];
     for e in 0..16 {

@@ -1,8 +1,8 @@
 // Lists the instruction words of standard input on standard output.
 ghost use Prim.Native.Nat.{_≤_};
+use isa::types::Listed;
 use libc::STDERR_FILENO;
 use libc::STDOUT_FILENO;
-use listing::Listed;
 
 // The most words that are listed.
 const LIMIT: usize = 1048576;

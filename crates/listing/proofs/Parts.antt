@@ -10,17 +10,17 @@ use borrow.Author.Tests.{lt-ltb, le-ltb, le-leb, lt-leb, leb-true, leb-false}
 use lib.Dec.{leb, ltb}
 use lib.ListN.{length, take, drop, length-append, take-append-drop}
 use lib.Seq.{take-all}
-use Rattle.listing.specs.Listing.{Added, ascii, linesOf, wordsOf, tailOf, tailLine, totalLine, countLine, limitLine, limit, overOf, lastOf, moreOf, partOf}
-use Rattle.listing.specs.Call.{Wrote, Outcome, roomFor, textOutcome, outcomeOf}
-use Rattle.listing.specs.declared.Part.{Part}
-use Rattle.listing.specs.declared.Listed.{Listed}
+use Rattle.listing.specs.Listing.{PieceText, ascii, linesOf, wordsOf, tailOf, tailLine, totalLine, countLine, limitLine, limit, overOf, lastOf, moreOf, partOf}
+use Rattle.listing.specs.Call.{Wrote, PartOutcome, roomFor, textOutcome, outcomeOfPart}
+use Rattle.isa.specs.declared.types.ListedPart.{ListedPart}
+use Rattle.isa.specs.declared.types.Listed.{Listed}
 use Rattle.listing.proofs.Placed.{placed-start, wrote-then}
 use Rattle.listing.proofs.Words.{words-length}
 use Rattle.listing.proofs.Lines.{lines-short}
 use Rattle.listing.proofs.Decimal.{count-short, tail-short}
 
 -- a text that was put at the buffer's start
-text-outcome : {out : List ℕ} {r : ℕ} {out₁ : List ℕ} (a : Added) → Wrote out 0 (a .text) r out₁
+text-outcome : {out : List ℕ} {r : ℕ} {out₁ : List ℕ} (a : PieceText) → Wrote out 0 (a .text) r out₁
     → record { answer = Listed.Text (record { length = r; done = a .done; ended = a .ended }); out = out₁ } ≡ textOutcome a out
 text-outcome {out} {r} {out₁} a w =
     let p : r ≡ length (a .text) = w .past ∙ zero-add (length (a .text)) in
@@ -71,26 +71,26 @@ last-outcome {out} {n} {out₁} {m} {out₂} {r} {out₃} done bytes room h u v 
     (omega (arith, length-append (linesOf (wordsOf bytes)) (tailLine (tailOf bytes))))))
 
 -- the call: no room
-pub call-room : (done : ℕ) (bytes : List ℕ) (last : Bool) (out : List ℕ) → leb (roomFor bytes) (length out) ≡ false → record { answer = Listed.Room; out = out } ≡ outcomeOf done bytes last out
-unfolding outcomeOf
+pub call-room : (done : ℕ) (bytes : List ℕ) (last : Bool) (out : List ℕ) → leb (roomFor bytes) (length out) ≡ false → record { answer = Listed.Room; out = out } ≡ outcomeOfPart done bytes last out
+unfolding outcomeOfPart
 call-room done bytes last out e = rw (lt-ltb (length out) (roomFor bytes) (leb-false (roomFor bytes) (length out) e))
 
-call-text : (done : ℕ) (bytes : List ℕ) (last : Bool) (out : List ℕ) → leb (roomFor bytes) (length out) ≡ true → outcomeOf done bytes last out ≡ textOutcome (partOf done bytes last) out
-unfolding outcomeOf
+call-text : (done : ℕ) (bytes : List ℕ) (last : Bool) (out : List ℕ) → leb (roomFor bytes) (length out) ≡ true → outcomeOfPart done bytes last out ≡ textOutcome (partOf done bytes last) out
+unfolding outcomeOfPart
 call-text done bytes last out e = rw (le-ltb (length out) (roomFor bytes) (leb-true (roomFor bytes) (length out) e))
 
 pub call-over : (done : ℕ) (bytes : List ℕ) (last : Bool) (out : List ℕ) → leb (roomFor bytes) (length out) ≡ true → ltb limit (done + length bytes / 4) ≡ true
-    → textOutcome (overOf done bytes) out ≡ outcomeOf done bytes last out
+    → textOutcome (overOf done bytes) out ≡ outcomeOfPart done bytes last out
 unfolding partOf
 call-over done bytes last out e h = rw (call-text done bytes last out e, words-length bytes, h)
 
 pub call-last : (done : ℕ) (bytes : List ℕ) (last : Bool) (out : List ℕ) → leb (roomFor bytes) (length out) ≡ true → ltb limit (done + length bytes / 4) ≡ false → last ≡ true
-    → textOutcome (lastOf done bytes) out ≡ outcomeOf done bytes last out
+    → textOutcome (lastOf done bytes) out ≡ outcomeOfPart done bytes last out
 unfolding partOf
 call-last done bytes last out e h l = rw (call-text done bytes last out e, words-length bytes, h, l)
 
 pub call-more : (done : ℕ) (bytes : List ℕ) (last : Bool) (out : List ℕ) → leb (roomFor bytes) (length out) ≡ true → ltb limit (done + length bytes / 4) ≡ false → last ≡ false
-    → textOutcome (moreOf done bytes) out ≡ outcomeOf done bytes last out
+    → textOutcome (moreOf done bytes) out ≡ outcomeOfPart done bytes last out
 unfolding partOf
 call-more done bytes last out e h l = rw (call-text done bytes last out e, words-length bytes, h, l)
 
@@ -99,10 +99,10 @@ abbrev listed-length : Listed → ℕ
 listed-length (Listed.Text p) = p .length
 listed-length Listed.Room = 0
 
-text-length : (a : Added) (out : List ℕ) → length (a .text) ≤ length (textOutcome a out .out)
+text-length : (a : PieceText) (out : List ℕ) → length (a .text) ≤ length (textOutcome a out .out)
 text-length a out = omega (arith, length-append (a .text) (drop (length (a .text)) out))
 
-outcome-within : (done : ℕ) (bytes : List ℕ) (last : Bool) (out : List ℕ) → listed-length (outcomeOf done bytes last out .answer) ≤ length (outcomeOf done bytes last out .out)
+outcome-within : (done : ℕ) (bytes : List ℕ) (last : Bool) (out : List ℕ) → listed-length (outcomeOfPart done bytes last out .answer) ≤ length (outcomeOfPart done bytes last out .out)
 outcome-within done bytes last out =
     elim (decLe (roomFor bytes) (length out)) [
       | yes h ↦ rw (call-text done bytes last out (le-leb (roomFor bytes) (length out) h)) (text-length (partOf done bytes last) out)
@@ -110,8 +110,8 @@ outcome-within done bytes last out =
     ]
 
 pub text-within : {r : Listed} {after : List ℕ} (done : ℕ) (bytes : List ℕ) (last : Bool) (out : List ℕ) (p : Part)
-    → record { answer = r; out = after } ≡ outcomeOf done bytes last out → r ≡ Listed.Text p → p .length ≤ length after
+    → record { answer = r; out = after } ≡ outcomeOfPart done bytes last out → r ≡ Listed.Text p → p .length ≤ length after
 text-within {r} {after} done bytes last out p e f =
-    let l : p .length ≡ listed-length (outcomeOf done bytes last out .answer) = ap listed-length (sym f ∙ ap (λ (o : Outcome). o .answer) e) in
-    let m : length after ≡ length (outcomeOf done bytes last out .out) = ap (λ (o : Outcome). length (o .out)) e in
+    let l : p .length ≡ listed-length (outcomeOfPart done bytes last out .answer) = ap listed-length (sym f ∙ ap (λ (o : PartOutcome). o .answer) e) in
+    let m : length after ≡ length (outcomeOfPart done bytes last out .out) = ap (λ (o : PartOutcome). length (o .out)) e in
     omega (arith, outcome-within done bytes last out)

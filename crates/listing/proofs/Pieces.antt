@@ -10,7 +10,7 @@ use borrow.Author.Tests.{lt-ltb, le-ltb}
 use lib.Dec.{ltb}
 use lib.ListN.{length, take, length-append}
 use lib.Seq.{take-append-le, take-append-add}
-use Rattle.listing.specs.Listing.{Added, linesOf, wordsOf, tailOf, tailLine, totalLine, limitLine, limit, overOf, lastOf, moreOf, partOf, listingOf, runOf, Whole, joined}
+use Rattle.listing.specs.Listing.{PieceText, linesOf, wordsOf, tailOf, tailLine, totalLine, limitLine, limit, overOf, lastOf, moreOf, partOf, listingOf, runOf, Whole, joined}
 use Rattle.listing.proofs.Words.{words-length, words-append}
 use Rattle.listing.proofs.Lines.{lines-append}
 
@@ -30,8 +30,8 @@ part-more : (done : ℕ) (bytes : List ℕ) → done + length (wordsOf bytes) �
 unfolding partOf
 part-more done bytes h = rw (le-ltb limit (done + length (wordsOf bytes)) h)
 
-text-of : {x y : Added} → x ≡ y → x .text ≡ y .text
-text-of e = ap (λ (a : Added). a .text) e
+text-of : {x y : PieceText} → x ≡ y → x .text ≡ y .text
+text-of e = ap (λ (a : PieceText). a .text) e
 
 -- one piece is the whole input
 pub part-whole : (bytes : List ℕ) → listFrom 0 bytes ≡ listingOf bytes
@@ -94,7 +94,7 @@ pieces-from done (piece ∷ pieces) bytes h =
           (sym (part-split done piece (joined pieces bytes) (h .0) k))
       | no k ↦
           let past : limit < done + length (wordsOf piece) = omega arith in
-          let ended : partOf done piece false .ended ≡ true = ap (λ (a : Added). a .ended) (part-over done piece false past) in
+          let ended : partOf done piece false .ended ≡ true = ap (λ (a : PieceText). a .ended) (part-over done piece false past) in
           rw ended (append-nil (partOf done piece false .text) ∙ sym (part-past done piece (joined pieces bytes) (h .0) past))
     ]
 

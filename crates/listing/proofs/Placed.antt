@@ -7,18 +7,18 @@ use native.Mathlib.Numerals.{add-one}
 use native.Mathlib.Omega.{arith}
 use lib.ListN.{length, getD, set, take, drop, length-append, length-drop, take-append-drop}
 use lib.Seq.{length-take-le, take-at, drop-append-add, drop-drop, paste, paste-zero, paste-suc, length-paste, take-length}
-use Rattle.listing.specs.Call.{placed, Wrote}
+use Rattle.listing.specs.Call.{withText, Wrote}
 
-pub placed-none : (out : List ℕ) (at : ℕ) → out ≡ placed out at []
-unfolding placed
+pub placed-none : (out : List ℕ) (at : ℕ) → out ≡ withText out at []
+unfolding withText
 placed-none out at = sym (simp (add-zero, append-nil, take-append-drop))
 
 -- what stands before a text's end
 front-length : (out : List ℕ) (at : ℕ) (a : List ℕ) → at ≤ length out → length (take at out ++ a) ≡ at + length a
 front-length out at a h = length-append (take at out) a ∙ ap (λ (k : ℕ). k + length a) (length-take-le at out h)
 
-pub placed-then : (out : List ℕ) (at : ℕ) (a b : List ℕ) → at + length a + length b ≤ length out → placed (placed out at a) (at + length a) b ≡ placed out at (a ++ b)
-unfolding placed
+pub placed-then : (out : List ℕ) (at : ℕ) (a b : List ℕ) → at + length a + length b ≤ length out → withText (withText out at a) (at + length a) b ≡ withText out at (a ++ b)
+unfolding withText
 placed-then out at a b h =
     let front : List ℕ = take at out ++ a in
     let rest : List ℕ = drop (at + length a) out in
@@ -31,8 +31,8 @@ placed-then out at a b h =
     ∙ ap (λ (s : List ℕ). s ++ drop (at + length a + length b) out) (append-assoc (take at out) a b)
     ∙ ap (λ (k : ℕ). take at out ++ (a ++ b) ++ drop k out) (add-assoc at (length a) (length b) ∙ ap (λ (k : ℕ). at + k) (sym (length-append a b)))
 
-pub length-placed : (out : List ℕ) (at : ℕ) (a : List ℕ) → at + length a ≤ length out → length (placed out at a) ≡ length out
-unfolding placed
+pub length-placed : (out : List ℕ) (at : ℕ) (a : List ℕ) → at + length a ≤ length out → length (withText out at a) ≡ length out
+unfolding withText
 length-placed out at a h =
     length-append (take at out ++ a) (drop (at + length a) out)
     ∙ ap (λ (k : ℕ). k + length (drop (at + length a) out)) (front-length out at a (omega arith))
@@ -40,8 +40,8 @@ length-placed out at a h =
     ∙ omega arith
 
 -- at the buffer's start
-pub placed-start : (out text : List ℕ) → placed out 0 text ≡ text ++ drop (length text) out
-unfolding placed
+pub placed-start : (out text : List ℕ) → withText out 0 text ≡ text ++ drop (length text) out
+unfolding withText
 placed-start out text = ap (λ (k : ℕ). text ++ drop k out) (zero-add (length text))
 
 pub wrote-none : (out : List ℕ) (at : ℕ) → Wrote out at [] at out
@@ -54,8 +54,8 @@ wrote-then {out} {at} {a} {n} {out₁} {b} {m} {out₂} w v h =
       past = v .past ∙ ap (λ (k : ℕ). k + length b) (w .past) ∙ add-assoc at (length a) (length b) ∙ ap (λ (k : ℕ). at + k) (sym (length-append a b));
       held =
           v .held
-          ∙ ap (λ (s : List ℕ). placed s n b) (w .held)
-          ∙ ap (λ (k : ℕ). placed (placed out at a) k b) (w .past)
+          ∙ ap (λ (s : List ℕ). withText s n b) (w .held)
+          ∙ ap (λ (k : ℕ). withText (withText out at a) k b) (w .past)
           ∙ placed-then out at a b h;
     }
 
@@ -81,7 +81,7 @@ copying-on {out₀} {at} {text} {out} {i} p h r =
     record { within = omega arith; sized = ap length e ∙ length-paste out₀ at text (i + 1) (omega arith) (omega arith); held = e }
 
 pub copying-ends : {out₀ : List ℕ} {at : ℕ} {text out : List ℕ} {i : ℕ} → Copying out₀ at text out i → length text ≤ i → Wrote out₀ at text (at + length text) out
-unfolding placed
+unfolding withText
 copying-ends {out₀} {at} {text} {out} {i} p h =
     let e : i ≡ length text = omega arith in
     record {

@@ -5,18 +5,18 @@ use mathlib.Core.Bool.{Bool, true, false}
 use mathlib.Core.List.{List, [], _∷_, _++_}
 use lib.Dec.{ltb}
 use lib.ListN.{length, getD, take, drop}
-use Rattle.listing.specs.Listing.{Added, ascii, wordOf, partOf}
-use Rattle.listing.specs.declared.Part.{Part}
-use Rattle.listing.specs.declared.Listed.{Listed}
+use Rattle.listing.specs.Listing.{PieceText, ascii, wordOf, partOf}
+use Rattle.isa.specs.declared.types.ListedPart.{ListedPart}
+use Rattle.isa.specs.declared.types.Listed.{Listed}
 
 -- out with a text from the place `at` on
-unfoldable pub placed : List ℕ → ℕ → List ℕ → List ℕ
-placed out at text = take at out ++ text ++ drop (at + length text) out
+unfoldable pub withText : List ℕ → ℕ → List ℕ → List ℕ
+withText out at text = take at out ++ text ++ drop (at + length text) out
 
 -- a function that was lent `before` put the text at the place `at`, left `after`, and answered the place past it
 pub record Wrote (before : List ℕ) (at : ℕ) (text : List ℕ) (next : ℕ) (after : List ℕ) : Type 0 where
   pub past : next ≡ at + length text
-  pub held : after ≡ placed before at text
+  pub held : after ≡ withText before at text
 
 -- the names by number, as they stand between decoding and writing
 abbrev pub names : List (List ℕ)
@@ -44,29 +44,24 @@ abbrev pub roomFor : List ℕ → ℕ
 roomFor bytes = 21 * (length bytes / 4) + 32
 
 -- an answer with what the buffer then holds
-pub record Outcome : Type 0 where
+pub record PartOutcome : Type 0 where
   pub answer : Listed
   pub out : List ℕ
 
-abbrev pub pickOutcome : Bool → Outcome → Outcome → Outcome
-pickOutcome true a b = a
-pickOutcome false a b = b
+abbrev pub pickPart : Bool → PartOutcome → PartOutcome → PartOutcome
+pickPart true a b = a
+pickPart false a b = b
 
 -- the text from the buffer's start, and behind it what stood there
-abbrev pub textOutcome : Added → List ℕ → Outcome
+abbrev pub textOutcome : PieceText → List ℕ → PartOutcome
 textOutcome a out =
     record {
       answer = Listed.Text (record { length = length (a .text); done = a .done; ended = a .ended });
       out = a .text ++ drop (length (a .text)) out;
     }
 
-unfoldable pub outcomeOf : ℕ → List ℕ → Bool → List ℕ → Outcome
-outcomeOf done bytes last out =
-    pickOutcome (ltb (length out) (roomFor bytes))
+unfoldable pub outcomeOfPart : ℕ → List ℕ → Bool → List ℕ → PartOutcome
+outcomeOfPart done bytes last out =
+    pickPart (ltb (length out) (roomFor bytes))
     (record { answer = Listed.Room; out = out })
     (textOutcome (partOf done bytes last) out)
-
--- the number of each answer. Document 01 has none for a lent buffer that is too short; 13 is the one that request A1 gives it
-unfoldable pub listedNumber : Listed → ℕ
-listedNumber (Listed.Text p) = 0
-listedNumber Listed.Room = 13

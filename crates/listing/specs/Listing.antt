@@ -109,17 +109,17 @@ listingOf bytes =
     (linesOf (wordsOf bytes) ++ tailLine (tailOf bytes) ++ totalLine (length (wordsOf bytes)))
 
 -- what one piece of the input adds: text, the words listed with it, and whether the output is complete
-pub record Added : Type 0 where
+pub record PieceText : Type 0 where
   pub text : List ℕ
   pub done : ℕ
   pub ended : Bool
 
-abbrev pub pickAdded : Bool → Added → Added → Added
-pickAdded true a b = a
-pickAdded false a b = b
+abbrev pub pickPiece : Bool → PieceText → PieceText → PieceText
+pickPiece true a b = a
+pickPiece false a b = b
 
 -- more words than may be listed: the lines up to the limit, and LIMIT
-abbrev pub overOf : ℕ → List ℕ → Added
+abbrev pub overOf : ℕ → List ℕ → PieceText
 overOf done bytes =
     record {
       text = linesOf (take (limit - done) (wordsOf bytes)) ++ limitLine;
@@ -128,7 +128,7 @@ overOf done bytes =
     }
 
 -- the input's last bytes: all lines, and the last lines
-abbrev pub lastOf : ℕ → List ℕ → Added
+abbrev pub lastOf : ℕ → List ℕ → PieceText
 lastOf done bytes =
     record {
       text = linesOf (wordsOf bytes) ++ tailLine (tailOf bytes) ++ totalLine (done + length (wordsOf bytes));
@@ -137,14 +137,14 @@ lastOf done bytes =
     }
 
 -- bytes that others follow: a tail of them is dropped, so they are a multiple of 4
-abbrev pub moreOf : ℕ → List ℕ → Added
+abbrev pub moreOf : ℕ → List ℕ → PieceText
 moreOf done bytes = record { text = linesOf (wordsOf bytes); done = done + length (wordsOf bytes); ended = false }
 
 -- `done` words were listed before; a `done` above the limit, which no run reaches, lists nothing more
-unfoldable pub partOf : ℕ → List ℕ → Bool → Added
+unfoldable pub partOf : ℕ → List ℕ → Bool → PieceText
 partOf done bytes last =
-    pickAdded (ltb limit (done + length (wordsOf bytes))) (overOf done bytes)
-    (pickAdded last (lastOf done bytes) (moreOf done bytes))
+    pickPiece (ltb limit (done + length (wordsOf bytes))) (overOf done bytes)
+    (pickPiece last (lastOf done bytes) (moreOf done bytes))
 
 -- what a run writes that is fed the pieces in order and then the last bytes: it stops at the first part that ends the output
 abbrev pub runOf : ℕ → List (List ℕ) → List ℕ → List ℕ

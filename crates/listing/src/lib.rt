@@ -5,25 +5,15 @@ ghost use Prim.Native.Nat.{_+_, _-_, _*_, _/_, _<_, _≤_};
 ghost use lib.Dec.{leb, ltb};
 ghost use lib.ListN.{length, take};
 ghost use Rattle.listing.specs.Listing.{ascii, hexDigit, hexOf, operationName, nameOf, lineOf, linesOf, wordsOf, decimalOf, countLine, tailLine, limit, overOf, lastOf, moreOf};
-ghost use Rattle.listing.specs.Call.{Wrote, wordAt, nameAt, textOutcome, outcomeOf};
+ghost use Rattle.listing.specs.Call.{Wrote, wordAt, nameAt, textOutcome, outcomeOfPart};
 ghost use Rattle.isa.specs.Decode.{decodeOf};
 use isa::types::Decoded;
+use isa::types::Listed;
+use isa::types::ListedPart;
 use isa::types::Op;
 
 // The most words that are listed.
 const LIMIT: usize = 1048576;
-
-// What a piece added to the text: its length in the buffer, the words listed so far, and whether the output is complete.
-pub struct Part {
-    pub length: usize,
-    pub done: usize,
-    pub ended: bool,
-}
-
-pub enum Listed {
-    Text(Part),
-    Room,
-}
 
 // Puts a text at a place and answers the place past it. Every byte of a listing is stored here.
 fn put_text(out: &mut [u8], at: usize, text: &[u8]) -> usize
@@ -213,14 +203,14 @@ fn words_left(done: usize) -> usize
 }
 
 // The lines up to the limit, and the line that says so.
-fn list_over(done: usize, bytes: &[u8], out: &mut [u8]) -> Part
+fn list_over(done: usize, bytes: &[u8], out: &mut [u8]) -> ListedPart
     requires { ⌜ limit < done + length (now bytes) / 4 ⌝ }
     requires { ⌜ 21 * (length (now bytes) / 4) + 32 ≤ length (now out) ⌝ }
     ensures { λ r. ⌜ record { answer = Listed.Text r; out = now (out .exit) } ≡ textOutcome (overOf done (now (bytes .entry))) (now (out .entry)) ⌝ }
 {
     let left = words_left(done);
     let end = put_lines(out, bytes, left);
-    Part {
+    ListedPart {
         length: put_text(out, end, b"LIMIT\n"),
         done: done + left,
         ended: true,
@@ -228,7 +218,7 @@ fn list_over(done: usize, bytes: &[u8], out: &mut [u8]) -> Part
 }
 
 // All lines, and the output's last lines.
-fn list_last(done: usize, bytes: &[u8], out: &mut [u8]) -> Part
+fn list_last(done: usize, bytes: &[u8], out: &mut [u8]) -> ListedPart
     requires { ⌜ done + length (now bytes) / 4 ≤ limit ⌝ }
     requires { ⌜ 21 * (length (now bytes) / 4) + 32 ≤ length (now out) ⌝ }
     ensures { λ r. ⌜ record { answer = Listed.Text r; out = now (out .exit) } ≡ textOutcome (lastOf done (now (bytes .entry))) (now (out .entry)) ⌝ }
@@ -236,7 +226,7 @@ fn list_last(done: usize, bytes: &[u8], out: &mut [u8]) -> Part
     let words = bytes.len() / 4;
     let tail = put_lines(out, bytes, words);
     let total = put_tail(out, tail, bytes.len() % 4);
-    Part {
+    ListedPart {
         length: put_count(out, total, b"TOTAL ", done + words),
         done: done + words,
         ended: true,
@@ -244,13 +234,13 @@ fn list_last(done: usize, bytes: &[u8], out: &mut [u8]) -> Part
 }
 
 // All lines of a piece that others follow.
-fn list_more(done: usize, bytes: &[u8], out: &mut [u8]) -> Part
+fn list_more(done: usize, bytes: &[u8], out: &mut [u8]) -> ListedPart
     requires { ⌜ done + length (now bytes) / 4 ≤ limit ⌝ }
     requires { ⌜ 21 * (length (now bytes) / 4) + 32 ≤ length (now out) ⌝ }
     ensures { λ r. ⌜ record { answer = Listed.Text r; out = now (out .exit) } ≡ textOutcome (moreOf done (now (bytes .entry))) (now (out .entry)) ⌝ }
 {
     let words = bytes.len() / 4;
-    Part {
+    ListedPart {
         length: put_lines(out, bytes, words),
         done: done + words,
         ended: false,
@@ -259,7 +249,7 @@ fn list_more(done: usize, bytes: &[u8], out: &mut [u8]) -> Part
 
 // Lists one piece of the input, where `done` words were listed before. A piece that is not the last has a multiple of 4 bytes.
 pub fn list_part(done: usize, bytes: &[u8], last: bool, out: &mut [u8]) -> Listed
-    ensures { λ r. ⌜ record { answer = r; out = now (out .exit) } ≡ outcomeOf done (now (bytes .entry)) last (now (out .entry)) ⌝ }
+    ensures { λ r. ⌜ record { answer = r; out = now (out .exit) } ≡ outcomeOfPart done (now (bytes .entry)) last (now (out .entry)) ⌝ }
 {
     let words = bytes.len() / 4;
     if !has_room(out.len(), words) {

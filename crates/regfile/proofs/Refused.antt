@@ -6,14 +6,14 @@ use Prim.Native.Nat.{ℕ, _<_}
 use native.Mathlib.Omega.{arith}
 use types.Run.{OneOf}
 use denote.Enum.Declared.{tagOf}
-use Rattle.isa.proofs.types.Checked.{the-type}
-use Rattle.isa.specs.declared.types.Checked.{Checked}
+use Rattle.isa.proofs.types.Asked.{the-type}
+use Rattle.isa.specs.declared.types.Asked.{Asked}
 
 tag-above : (x : ℕ) → OneOf (1 ∷ 2 ∷ 3 ∷ []) x → 0 < x
 tag-above x h = ⊎-elim (λ e. omega arith) (λ r. ⊎-elim (λ e. omega arith) (λ e. omega arith) r) h
 
-pub refused : (k : Checked) → OneOf (1 ∷ 2 ∷ 3 ∷ []) (tagOf the-type k) → k ≡ Checked.Passed → ⊥
-refused Checked.Passed h e = let z = tag-above 0 h in omega arith
-refused Checked.BadLength h e = let z : _≡_ {A = ℕ} 0 1 = cc in omega arith
-refused Checked.BadSize h e = let z : _≡_ {A = ℕ} 0 1 = cc in omega arith
-refused Checked.NoRegister h e = let z : _≡_ {A = ℕ} 0 1 = cc in omega arith
+pub refused : (k : Asked) → OneOf (1 ∷ 2 ∷ 3 ∷ []) (tagOf the-type k) → k ≡ Asked.Found → ⊥
+refused Asked.Found h e = let z = tag-above 0 h in omega arith
+refused Asked.BadLength h e = let z : _≡_ {A = ℕ} 0 1 = cc in omega arith
+refused Asked.BadSize h e = let z : _≡_ {A = ℕ} 0 1 = cc in omega arith
+refused Asked.NoRegister h e = let z : _≡_ {A = ℕ} 0 1 = cc in omega arith

@@ -1,7 +1,8 @@
 // The checks before a file is used, in the order of their numbers.
 ghost use mathlib.Core.Path.{_≡_};
 ghost use Rattle.isa.specs.File.{checkOf, registerCheck};
-ghost use Rattle.isa.specs.Number.{checkedNumber};
+ghost use Rattle.isa.specs.Number.{askedNumber};
+use isa::types::Asked;
 use isa::types::Checked;
 
 // Whether l is a legal vector length and `size` the number of bytes of its file.
@@ -26,32 +27,31 @@ pub fn check_size(l: usize, size: usize) -> Checked
 }
 
 // The same, and then whether there is a register n.
-pub fn check_register(l: usize, size: usize, n: usize) -> Checked
+pub fn check_register(l: usize, size: usize, n: usize) -> Asked
     ensures { λ r. ⌜ r ≡ registerCheck l size n ⌝ }
 {
     let c = check_size(l, size);
     match c {
         Checked::Passed => {
             if n < 32 {
-                Checked::Passed
+                Asked::Found
             } else {
-                Checked::NoRegister
+                Asked::NoRegister
             }
         }
-        Checked::BadLength => Checked::BadLength,
-        Checked::BadSize => Checked::BadSize,
-        Checked::NoRegister => Checked::NoRegister,
+        Checked::BadLength => Asked::BadLength,
+        Checked::BadSize => Asked::BadSize,
     }
 }
 
 // The number of document 01.
-pub fn checked_number(c: Checked) -> u8
-    ensures { λ r. ⌜ r ≡ checkedNumber c ⌝ }
+pub fn asked_number(a: Asked) -> u8
+    ensures { λ r. ⌜ r ≡ askedNumber a ⌝ }
 {
-    match c {
-        Checked::Passed => 0,
-        Checked::BadLength => 1,
-        Checked::BadSize => 2,
-        Checked::NoRegister => 6,
+    match a {
+        Asked::Found => 0,
+        Asked::BadLength => 1,
+        Asked::BadSize => 2,
+        Asked::NoRegister => 6,
     }
 }

@@ -4,7 +4,7 @@ ghost use Prim.Native.Nat.{_*_, _<_, _≤_};
 ghost use Rattle.isa.specs.File.{registerOf};
 ghost use Rattle.regfile.specs.Place.{Half, Short, Starts};
 use crate::check::check_register;
-use isa::types::Checked;
+use isa::types::Asked;
 
 // n * w from n / 2 * w. Called by `offset`, with the leading bits of its n.
 fn appended(half: usize, w: usize, n: usize) -> usize
@@ -45,7 +45,7 @@ pub fn starts(w: usize) -> [usize; 32]
 pub fn register(l: usize, file: &mut [u8], n: usize) -> &mut [u8]
     ensures { λ r. ⌜ now r ≡ registerOf l (now (file .entry)) n ⌝ }
 {
-    let Checked::Passed = check_register(l, file.len(), n) else {
+    let Asked::Found = check_register(l, file.len(), n) else {
         return &mut file[0..0];
     };
     let w = l >> 3;
@@ -58,7 +58,7 @@ pub fn register(l: usize, file: &mut [u8], n: usize) -> &mut [u8]
 pub fn register_read(l: usize, file: &[u8], n: usize) -> &[u8]
     ensures { λ r. ⌜ now r ≡ registerOf l (now (file .entry)) n ⌝ }
 {
-    let Checked::Passed = check_register(l, file.len(), n) else {
+    let Asked::Found = check_register(l, file.len(), n) else {
         return &file[0..0];
     };
     let w = l >> 3;

@@ -7,7 +7,7 @@ returns : tie.Need-returns
 returns c =
     let part = c .before .before .before in
     let start = part .before .before .before .before in
-    list-packed (start .args .bytes .now) (start .args .out .now) (part .list-part .ensures) (c .listed-number .ensures)
+    list-packed (start .args .bytes .now) (start .args .out .now) (part .list-part .ensures) (c .packed-listing .ensures)
 
 pub kob-list-spec : {M : Type 1} → statement M
 kob-list-spec =

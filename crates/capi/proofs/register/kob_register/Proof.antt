@@ -1,7 +1,7 @@
 use mathlib.Core.Path.{_≡_, sym, ap, _∙_}
 use Prim.Native.Nat.{ℕ, _/_}
 use native.Mathlib.Omega.{arith}
-use Rattle.isa.specs.declared.types.Checked.{Checked}
+use Rattle.isa.specs.declared.types.Asked.{Asked}
 use Rattle.isa.specs.File.{registerCheck}
 use Rattle.isa.proofs.FileChecks.{register-ends}
 use Rattle.regfile.proofs.Refused.{refused}
@@ -17,7 +17,7 @@ returns c =
     let a = k .before .args in
     c .number-of .ensures ∙ register-refused (a .l) (a .size) (a .n) (k .check-register .ensures) (refused (k .check-register .result) (c .before .match .keys2))
 
-passed : (c : tie.After-enum-told) → registerCheck (c .before .before .before .args .l) (c .before .before .before .args .size) (c .before .before .before .args .n) ≡ Checked.Passed
+passed : (c : tie.After-enum-told) → registerCheck (c .before .before .before .args .l) (c .before .before .before .args .size) (c .before .before .before .args .n) ≡ Asked.Found
 passed c = sym (c .before .before .check-register .ensures) ∙ c .enum-told .given .1
 
 offset-requires : tie.Need-offset-requires

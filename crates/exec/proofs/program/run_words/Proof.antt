@@ -49,12 +49,9 @@ enum-known-stepped c = search needs
 enum-known-stepped-2 : tie.Need-enum-known-stepped-2 Inv-loop μ-loop
 enum-known-stepped-2 c = search needs
 
-ran-requires : tie.Need-ran-requires Inv-loop μ-loop
-ran-requires c κs = search needs
-
 same-length : tie.Need-same-length Inv-loop μ-loop
 same-length c =
-    let k = c .before .before .before .before .before .before in
+    let k = c .before .before .before .before .before in
     let h = k .before .before .before .before .before in
     let s = h .before .before .before .before .before in
     let a = s .args in
@@ -62,13 +59,13 @@ same-length c =
 
 returns : tie.Need-returns Inv-loop μ-loop
 returns c =
-    let k = c .before .before .before .before .before .before in
+    let k = c .before .before .before .before .before in
     let h = k .before .before .before .before .before in
     let s = h .before .before .before .before .before in
     let a = s .args in
     words-stop (a .l) (a .words .now) (start (a .file .now) (a .qc)) (h .loop .file) (h .loop .state) (h .loop .i) (h .loop .inv)
-    (k .before .before .before .before .loop-test .taken) (c .before .before .stepped2 .given .0 .0) (k .step-word .result) _ (c .ran .result) (k .step-word .ensures)
-    (c .before .before .stepped2 .given .1) (c .ran .ensures)
+    (k .before .before .before .before .loop-test .taken) (c .before .stepped2 .given .0 .0) (k .step-word .result) _ (k .step-word .ensures)
+    (c .before .stepped2 .given .1)
 
 add-i : tie.Need-add-i Inv-loop μ-loop
 add-i c = search needs
@@ -85,8 +82,8 @@ loop-again c =
     words-on (a .l) (a .words .now) (start (a .file .now) (a .qc)) (h .loop .file) (h .loop .state) (h .loop .i) (h .loop .inv)
     (k .before .before .before .before .loop-test .taken) (c .before .stepped .given .0 .0) (k .step-word .result) _ (k .step-word .ensures) (c .before .stepped .given .1)
 
-ran-requires-2 : tie.Need-ran-requires-2 Inv-loop μ-loop
-ran-requires-2 c κs = search needs
+ended-requires : tie.Need-ended-requires Inv-loop μ-loop
+ended-requires c κs = search needs
 
 same-length-2 : tie.Need-same-length-2 Inv-loop μ-loop
 same-length-2 c =
@@ -99,7 +96,7 @@ returns-2 c =
     let h = c .before .before in
     let s = h .before .before .before .before .before in
     let a = s .args in
-    words-end (a .l) (a .words .now) (start (a .file .now) (a .qc)) (h .loop .file) (h .loop .state) (h .loop .i) (h .loop .inv) (c .before .loop-test .left) (c .ran2 .result) (c .ran2 .ensures)
+    words-end (a .l) (a .words .now) (start (a .file .now) (a .qc)) (h .loop .file) (h .loop .state) (h .loop .i) (h .loop .inv) (c .before .loop-test .left) (c .ended .result) (c .ended .ensures)
 
 pub run-words-spec : {M : Type 1} → statement M
 run-words-spec =
@@ -115,12 +112,11 @@ run-words-spec =
     step-word-requires
     enum-known-stepped
     enum-known-stepped-2
-    ran-requires
     same-length
     returns
     add-i
     loop-less
     loop-again
-    ran-requires-2
+    ended-requires
     same-length-2
     returns-2)

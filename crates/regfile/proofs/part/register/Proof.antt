@@ -4,7 +4,7 @@ use borrow.Author.Needs.{needs}
 use mathlib.Core.Path.{_≡_, sym, _∙_}
 use native.Mathlib.Omega.{arith}
 use lib.ListN.{length}
-use Rattle.isa.specs.declared.types.Checked.{Checked}
+use Rattle.isa.specs.declared.types.Asked.{Asked}
 use Rattle.isa.specs.File.{registerCheck}
 use Rattle.isa.proofs.FileChecks.{Given, register-ends, register-given, register-refused}
 use Rattle.regfile.proofs.Refused.{refused}
@@ -33,7 +33,7 @@ returns c =
     register-refused (a .l) (a .file .now) (a .n) (k .check-register .result) (sym (k .check-register .ensures)) (refused (k .check-register .result) (c .before .match .keys2))
 
 -- the check passed, so the register lies in the file
-passed : (c : tie.After-enum-told) → registerCheck (c .before .before .before .before .args .l) (length (c .before .before .before .before .args .file .now)) (c .before .before .before .before .args .n) ≡ Checked.Passed
+passed : (c : tie.After-enum-told) → registerCheck (c .before .before .before .before .args .l) (length (c .before .before .before .before .args .file .now)) (c .before .before .before .before .args .n) ≡ Asked.Found
 passed c = sym (c .before .before .check-register .ensures) ∙ c .enum-told .given .1
 
 given : (c : tie.After-enum-told) → Given (c .before .before .before .before .args .l) (length (c .before .before .before .before .args .file .now)) (c .before .before .before .before .args .n)

@@ -1,9 +1,9 @@
--- `regfile::check::checked_number` meets its contract.
+-- `regfile::check::asked_number` meets its contract.
 -- Assumes nothing.
 use borrow.Author.Needs.{needs}
-use Rattle.isa.specs.Number.{checkedNumber}
-use Rattle.regfile.proofs.check.checked_number.Statement.{statement}
-use Rattle.regfile.proofs.check.checked_number.Tie as tie
+use Rattle.isa.specs.Number.{askedNumber}
+use Rattle.regfile.proofs.check.asked_number.Statement.{statement}
+use Rattle.regfile.proofs.check.asked_number.Tie as tie
 
 enum-told : tie.Need-enum-told
 enum-told c = search needs
@@ -18,22 +18,22 @@ enum-told-4 : tie.Need-enum-told-4
 enum-told-4 c = search needs
 
 returns : tie.Need-returns
-unfolding checkedNumber
+unfolding askedNumber
 returns c = rw (c .enum-told .given .1)
 
 returns-2 : tie.Need-returns-2
-unfolding checkedNumber
+unfolding askedNumber
 returns-2 c = rw (c .enum-told2 .given .1)
 
 returns-3 : tie.Need-returns-3
-unfolding checkedNumber
+unfolding askedNumber
 returns-3 c = rw (c .enum-told3 .given .1)
 
 returns-4 : tie.Need-returns-4
-unfolding checkedNumber
+unfolding askedNumber
 returns-4 c = rw (c .enum-told4 .given .1)
 
-pub checked-number-spec : {M : Type 1} → statement M
-checked-number-spec =
+pub asked-number-spec : {M : Type 1} → statement M
+asked-number-spec =
     tie.close
     (tie.spec enum-told enum-told-2 enum-told-3 enum-told-4 returns returns-2 returns-3 returns-4)

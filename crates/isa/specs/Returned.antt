@@ -1,0 +1,77 @@
+-- Document 01, 'Numbers returned': when each number is given, and what is returned and left beside it. A line holds where its own condition
+-- does and no earlier check applies. That the definitions answer exactly so: `call-exact`, `check-exact`, `register-exact`, `decode-exact`,
+-- `encode-exact` of proofs/Returned.antt.
+use mathlib.Core.Path.{_≡_}
+use Prim.Native.Nat.{ℕ, _*_, _/_, _<_, _≤_}
+use mathlib.Core.Bool.{Bool, true, false}
+use mathlib.Core.List.{List, [], _∷_}
+use lib.ListN.{length, getD, take, drop}
+use Rattle.isa.specs.Allowed.{AllowedWord, ReservedWord, OutsideWord}
+use Rattle.isa.specs.Encode.{checksOf}
+use Rattle.isa.specs.File.{legal}
+use Rattle.isa.specs.Run.{State, start, run}
+use Rattle.isa.specs.declared.types.Op.{Op}
+
+-- ---- executing: 1, 2, 3, then word by word 4 or 5
+
+-- none of 1, 2 and 3 applies
+pub record Runs (L : ℕ) (file words : List ℕ) : Type 0 where
+  pub ok : legal L ≡ true
+  pub sized : length file ≡ 4 * L
+  pub short : length words ≤ 4096
+
+-- the first k words are operations
+abbrev pub Operations : List ℕ → ℕ → Type 0
+Operations words k = (i : ℕ) → i < k → AllowedWord (getD words i 0)
+
+-- the file and the flag as after the first k words, and their count
+abbrev pub afterWords : ℕ → List ℕ → Bool → List ℕ → ℕ → State
+afterWords L file qc words k = record {
+  file = run L (take k words) (start file qc) .file;
+  qc = run L (take k words) (start file qc) .answer .qc;
+  done = k;
+}
+
+-- the number, and the file, the flag and the words done
+pub data RunReturns (L : ℕ) (file : List ℕ) (qc : Bool) (words : List ℕ) : ℕ → State → Type 0 where
+  done : Runs L file words → Operations words (length words) → RunReturns L file qc words 0 (afterWords L file qc words (length words))
+  bad-length : legal L ≡ false → RunReturns L file qc words 1 (start file qc)
+  bad-size : legal L ≡ true → (length file ≡ 4 * L → ⊥) → RunReturns L file qc words 2 (start file qc)
+  too-long : legal L ≡ true → length file ≡ 4 * L → 4096 < length words → RunReturns L file qc words 3 (start file qc)
+  outside : (k : ℕ) → Runs L file words → Operations words k → k < length words → OutsideWord (getD words k 0) →
+      RunReturns L file qc words 4 (afterWords L file qc words k)
+  reserved : (k : ℕ) → Runs L file words → Operations words k → k < length words → ReservedWord (getD words k 0) →
+      RunReturns L file qc words 5 (afterWords L file qc words k)
+
+-- ---- a length and a size alone: 1, 2
+
+pub data CheckReturns (L size : ℕ) : ℕ → Type 0 where
+  passed : legal L ≡ true → size ≡ 4 * L → CheckReturns L size 0
+  bad-length : legal L ≡ false → CheckReturns L size 1
+  bad-size : legal L ≡ true → (size ≡ 4 * L → ⊥) → CheckReturns L size 2
+
+-- ---- asking for a register: 1, 2, 6; the number, and the part handed out
+
+pub data RegisterReturns (L : ℕ) (file : List ℕ) (r : ℕ) : ℕ → List ℕ → Type 0 where
+  found : legal L ≡ true → length file ≡ 4 * L → r ≤ 31 → RegisterReturns L file r 0 (take (L / 8) (drop (r * (L / 8)) file))
+  bad-length : legal L ≡ false → RegisterReturns L file r 1 []
+  bad-size : legal L ≡ true → (length file ≡ 4 * L → ⊥) → RegisterReturns L file r 2 []
+  no-register : legal L ≡ true → length file ≡ 4 * L → 31 < r → RegisterReturns L file r 6 []
+
+-- ---- writing: 7, 8, 9, 10; the number, and the word
+
+pub data WriteReturns (op : Op) : ℕ → ℕ → Type 0 where
+  done : checksOf op .size ≡ true → checksOf op .rotation ≡ true → checksOf op .registers ≡ true → checksOf op .index ≡ true →
+      WriteReturns op 0 (checksOf op .word)
+  no-size : checksOf op .size ≡ false → WriteReturns op 7 0
+  no-rotation : checksOf op .size ≡ true → checksOf op .rotation ≡ false → WriteReturns op 8 0
+  register-limit : checksOf op .size ≡ true → checksOf op .rotation ≡ true → checksOf op .registers ≡ false → WriteReturns op 9 0
+  index-limit : checksOf op .size ≡ true → checksOf op .rotation ≡ true → checksOf op .registers ≡ true → checksOf op .index ≡ false →
+      WriteReturns op 10 0
+
+-- ---- decoding: the number, and the operation, which is the one that is written as the word
+
+pub data DecodeReturns (w : ℕ) : ℕ → List Op → Type 0 where
+  operation : (op : Op) → AllowedWord w → WriteReturns op 0 w → DecodeReturns w 0 (op ∷ [])
+  outside : OutsideWord w → DecodeReturns w 4 []
+  reserved : ReservedWord w → DecodeReturns w 5 []
