@@ -5,8 +5,8 @@ print.
     cases.py [ROOT]            write them below ROOT (default: the repository that has this file)
     cases.py --check [ROOT]    fail if what is stored is not what would be written
 
-A record of codec_cases is 12 bytes: the kind (0 decode, 1 encode) and three zeros; then the word,
-little-endian, and four zeros, or the eight fields of an operation in the model's order, a byte each.
+A record of codec_cases is little-endian numbers of 4 bytes: the kind (1 decode, 2 encode), and then
+the word, or the eight fields of an operation in the model's order.
 """
 
 import struct
@@ -126,6 +126,18 @@ def operations():
         name, _ = source.choose(used(kind))
         yield within(kind)._replace(**{name: source.below(256)})
 
+    # Above 255: numbers of which some bits, looked at alone, are within the limit. One field at a
+    # time, and two, of which the first check that fails tells.
+    def large(limit):
+        return 256, 256 + source.below(limit + 1), 65536, 2**31, 2**32 - 1
+
+    for kind in kinds:
+        for name, limit in used(kind):
+            for value in large(limit):
+                yield within(kind)._replace(**{name: value})
+        for both in combinations(used(kind), 2):
+            yield within(kind)._replace(**{name: source.choose(large(limit)) for name, limit in both})
+
 
 # ---- the stored files
 
@@ -134,12 +146,12 @@ def decode_case(word):
     answer = model.decode(word)
     number = {model.OUTSIDE: "4", model.RESERVED: "5"}.get(answer)
     text = number or " ".join(map(str, (0, *answer)))
-    return struct.pack("<B3xI4x", 0, word), f"D {word:08x} {text}\n"
+    return struct.pack("<2I", 1, word), f"D {word:08x} {text}\n"
 
 
 def encode_case(op):
     number, word = model.encode(op)
-    return struct.pack("<B3x8B", 1, *op), f"E {' '.join(map(str, op))} {number} {word:08x}\n"
+    return struct.pack("<9I", 2, *op), f"E {' '.join(map(str, op))} {number} {word:08x}\n"
 
 
 def stored(program, cases):

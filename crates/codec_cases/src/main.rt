@@ -1,5 +1,5 @@
 // Decodes and writes the stored cases of standard input, and prints what comes of each: its number, word and fields.
-// A case has 12 bytes: a kind, three zeros, and a little-endian word (kind 0) or the eight fields of an operation.
+// A case is little-endian numbers of 4 bytes: a kind, and then the word (kind 1) or the eight fields of an operation (kind 2).
 ghost use Prim.Native.Nat.{_<_};
 use isa::types::Add;
 use isa::types::ByElement;
@@ -276,30 +276,38 @@ fn wide(x: u8) -> u32
     x as u32
 }
 
-fn print_case(c: [u8; 12]) {
-    if c[0] == 0 {
-        print_decoded(wide(c[4]) + (wide(c[5]) << 8) + (wide(c[6]) << 16) + (wide(c[7]) << 24));
-    } else {
-        print_written(Fields {
-            family: wide(c[4]),
-            size: wide(c[5]),
-            form: wide(c[6]),
-            turns: wide(c[7]),
-            destination: wide(c[8]),
-            first: wide(c[9]),
-            second: wide(c[10]),
-            index: wide(c[11]),
-        });
+// The next number of standard input; 0, which is no kind, where it has ended.
+fn read_number() -> u32 {
+    let mut b = [0u8; 4];
+    if io::read_full(STDIN_FILENO, &mut b) < 4 {
+        return 0;
     }
-    io::write_all(STDOUT_FILENO, b"\n");
+    wide(b[0]) + (wide(b[1]) << 8) + (wide(b[2]) << 16) + (wide(b[3]) << 24)
+}
+
+fn read_fields() -> Fields {
+    Fields {
+        family: read_number(),
+        size: read_number(),
+        form: read_number(),
+        turns: read_number(),
+        destination: read_number(),
+        first: read_number(),
+        second: read_number(),
+        index: read_number(),
+    }
 }
 
 fn run_case() -> bool {
-    let mut c = [0u8; 12];
-    if io::read_full(STDIN_FILENO, &mut c) < 12 {
-        return false;
+    let kind = read_number();
+    match kind {
+        1 => print_decoded(read_number()),
+        2 => print_written(read_fields()),
+        _ => {
+            return false;
+        }
     }
-    print_case(c);
+    io::write_all(STDOUT_FILENO, b"\n");
     true
 }
 
