@@ -1,13 +1,17 @@
-"""The stored cases of the program cases: runs of programs, refused ones among them.
+"""The stored cases of the program cases: runs of programs, single words and registers asked for,
+refused ones among them.
 
-A record begins with five little-endian numbers of 4 bytes: the vector length, the bytes of the file,
-the flag, the words, and a seed. Then come the file's bytes where the seed is 0 (any other seed makes
-them, as below), and the words. A line of the answer has document 01's number, the words done, the
-flag and a digest of the file that is left.
+A record begins with six little-endian numbers of 4 bytes: the kind, the vector length, the bytes of
+the file, the flag, a number, and a seed. Then come the file's bytes where the seed is 0 (any other
+seed makes them, as below). The number is that of a run's words, which come last; the word to execute;
+or the register. A line of the answer has document 01's number, the words done, the flag and a digest
+of the file that is left; for a register document 01's number, the length and a digest of the part to
+read, the length of the part to fill, and a digest of the file with that part's bytes complemented.
 """
 
 import struct
 from functools import lru_cache
+from itertools import product
 
 import execution
 import kernel_cases
@@ -19,6 +23,7 @@ from model import ADDS, ELEMENT, TABLE
 MOST_BYTES = 4 * 2176  # of a file: that of the first multiple of 128 that is too long
 START = 0x9E3779B97F4A7C15
 SEEDS = range(1, 97)
+RUN, EXECUTE, REGISTER = 1, 2, 3  # the kinds
 
 
 # ---- what the program does too: bytes from a seed, and the digest
@@ -68,15 +73,49 @@ def digest(file):
 
 # ---- the cases
 
+WRONG_LENGTHS = (0, 127, 192, 2176, 2**32 - 1)
+
+
+def wrong_sizes(length):
+    """Of files for a legal length: none, one byte short, one long."""
+    return 0, 4 * length - 1, 4 * length + 1
+
+
+def any_sizes(length):
+    """Of files for a length that is not legal: none, one of another length, its own."""
+    return sorted({0, 512, min(4 * length, MOST_BYTES)})
+
+
+def ran_line(ran):
+    return f"{ran.number} {ran.done} {int(ran.flag)} {digest(ran.file):016x}\n"
+
 
 def case(length, size, flag, words, seed=0, file=None):
-    """The record and the line."""
-    head = struct.pack("<5I", length, size, flag, len(words), seed)
+    """The record and the line of a run."""
+    head = struct.pack("<6I", RUN, length, size, flag, len(words), seed)
     if seed:
         file = bytes_from(seed)[:size]
     ran = execution.run(length, file, bool(flag), words)
-    record = head + (b"" if seed else file) + struct.pack(f"<{len(words)}I", *words)
-    return record, f"{ran.number} {ran.done} {int(ran.flag)} {digest(ran.file):016x}\n"
+    return head + (b"" if seed else file) + struct.pack(f"<{len(words)}I", *words), ran_line(ran)
+
+
+def word_case(length, size, flag, word, seed):
+    """The same of one word by itself, which does what a run of it does."""
+    ran = execution.run(length, bytes_from(seed)[:size], bool(flag), [word])
+    return struct.pack("<6I", EXECUTE, length, size, flag, word, seed), ran_line(ran)
+
+
+def register_case(length, size, n, seed):
+    """The same of a register asked for. On a refusal the file stays as it is."""
+    file = bytes_from(seed)[:size]
+    number, part = execution.register(length, file, n)
+    filled = file
+    if number == execution.DONE:
+        held = execution.registers(length, file)
+        held[n] = bytes(255 - byte for byte in part)
+        filled = b"".join(held)
+    record = struct.pack("<6I", REGISTER, length, size, 0, n, seed)
+    return record, f"{number} {len(part)} {digest(part):016x} {len(part)} {digest(filled):016x}\n"
 
 
 class Maker:
@@ -204,6 +243,39 @@ class Maker:
         yield self.seeded(192, many + outside)
         yield self.seeded(128, many + outside, None, 511)
 
+    def executed(self):
+        """Every operation by itself; words that are none; lengths and files that are refused."""
+
+        def one(length, word, size=None):
+            size = 4 * length if size is None else size
+            return word_case(length, size, self.source.below(2), word, self.source.choose(SEEDS))
+
+        for at, op in enumerate(self.operations):
+            for length in (LENGTHS[at % 16], self.length()):
+                yield one(length, self.word(self.registers(op)))
+        for length in LENGTHS:
+            for make in (self.good, self.outside, self.reserved):
+                yield one(length, make())
+                yield from (one(length, make(), size) for size in wrong_sizes(length))
+        for length in WRONG_LENGTHS:
+            for make in (self.good, self.outside, self.reserved):
+                yield from (one(length, make(), size) for size in any_sizes(length))
+
+    def asked(self):
+        """Registers on either side of the limit; 1 before 2 before 6 where several are due."""
+
+        def one(length, size, n):
+            return register_case(length, size, n, self.source.choose(SEEDS))
+
+        for length in LENGTHS:
+            for n in (0, 1, 15, 16, 30, 31, 32, 33, 2**32 - 1):
+                yield one(length, 4 * length, n)
+            for size, n in product(wrong_sizes(length), (0, 31, 32, 2**32 - 1)):
+                yield one(length, size, n)
+        for length in WRONG_LENGTHS:
+            for size, n in product(any_sizes(length), (0, 31, 32, 2**32 - 1)):
+                yield one(length, size, n)
+
     def cases(self):
         yield from self.single()
         yield from self.coinciding()
@@ -211,6 +283,8 @@ class Maker:
         yield from self.programs()
         yield from self.refusals()
         yield from self.long()
+        yield from self.executed()
+        yield from self.asked()
 
 
 def cases(source):

@@ -1,11 +1,16 @@
-// Runs the stored cases of standard input, and prints of each the number, the words done, the flag and a digest of the file that is left.
-// A case begins with five little-endian numbers of 4 bytes: the vector length, the bytes of the file, the flag, the words, and a seed. Then come the bytes of the file where the seed is 0, and the words; any other seed makes the file.
+// Runs the stored cases of standard input, and prints what comes of each. A case begins with six little-endian numbers of 4 bytes: a kind, the vector length, the bytes of the file, the flag, a number, and a seed. Then come the bytes of the file where the seed is 0; any other seed makes the file.
+// Kind 1 runs a program of so many words as the number says, which come last; kind 2 executes the number as a word. Both print document 01's number, the words done, the flag and a digest of the file that is left.
+// Kind 3 asks for the register of that number, and prints document 01's number, the length and a digest of the part to read, the length of the part to fill, and a digest of the file with that part's bytes complemented.
 ghost use Prim.Native.Nat.{_<_, _≤_};
 ghost use Rattle.io.specs.Counts.{Counts};
 use common::bits32::word;
 use isa::types::Ran;
 use libc::STDIN_FILENO;
 use libc::STDOUT_FILENO;
+use regfile::check::check_register;
+use regfile::check::checked_number;
+use regfile::part::register;
+use regfile::part::register_read;
 
 // Nothing says that the input ends, so the loop counts the cases.
 const MOST: usize = 100000;
@@ -99,31 +104,50 @@ fn print_number(n: usize) {
     io::write_all(STDOUT_FILENO, b" ");
 }
 
+fn print_digest(bytes: &[u8]) {
+    io::print_hex(STDOUT_FILENO, digest(bytes), 16);
+}
+
 fn print_ran(ran: Ran, file: &[u8]) {
     let ending = ran.ending;
     print_number(exec::ending_number(ending) as usize);
     print_number(ran.done);
     print_number(if ran.qc { 1 } else { 0 });
-    io::print_hex(STDOUT_FILENO, digest(file), 16);
-    io::write_all(STDOUT_FILENO, b"\n");
+    print_digest(file);
+}
+
+// ---- a register asked for
+
+// Every byte becomes another, so that a digest tells which were lent. Answers how many.
+fn complement(part: &mut [u8]) -> usize {
+    for i in 0..part.len() {
+        part[i] = part[i] ^ 255;
+    }
+    part.len()
+}
+
+fn print_check(l: usize, size: usize, n: usize) {
+    let checked = check_register(l, size, n);
+    print_number(checked_number(checked) as usize);
+}
+
+fn print_part(part: &[u8]) {
+    print_number(part.len());
+    print_digest(part);
+    io::write_all(STDOUT_FILENO, b" ");
+}
+
+fn print_register(l: usize, file: &mut [u8], n: usize) {
+    print_check(l, file.len(), n);
+    print_part(register_read(l, file, n));
+    print_number(complement(register(l, file, n)));
+    print_digest(file);
 }
 
 // ---- cases
 
 fn wide(x: u32) -> usize {
     x as usize
-}
-
-fn run_on(l: usize, file: &mut [u8], qc: bool, words: &mut [u32], seed: u32) -> bool {
-    if !read_file(file, seed) {
-        return false;
-    }
-    if !read_words(words) {
-        return false;
-    }
-    let ran = exec::run(l, file, qc, words);
-    print_ran(ran, file);
-    true
 }
 
 // Room for a file, of which `size` bytes will be lent.
@@ -142,27 +166,61 @@ fn word_space(count: usize) -> [u32; 4097]
     [0; 4097]
 }
 
-fn run_sized(l: usize, size: usize, qc: bool, count: usize, seed: u32) -> bool {
-    if 8704 < size || 4097 < count {
+fn print_run(l: usize, file: &mut [u8], qc: bool, words: &mut [u32]) -> bool {
+    if !read_words(words) {
+        return false;
+    }
+    print_ran(exec::run(l, file, qc, words), file);
+    true
+}
+
+fn run_sized(l: usize, file: &mut [u8], qc: bool, count: usize) -> bool {
+    if 4097 < count {
+        return false;
+    }
+    let mut words = word_space(count);
+    print_run(l, file, qc, &mut words[..count])
+}
+
+fn print_case(kind: u32, l: usize, file: &mut [u8], qc: bool, number: u32) -> bool {
+    match kind {
+        1 => {
+            return run_sized(l, file, qc, wide(number));
+        }
+        2 => print_ran(exec::execute(l, file, qc, number), file),
+        3 => print_register(l, file, wide(number)),
+        _ => {
+            return false;
+        }
+    }
+    true
+}
+
+fn case_on(head: [u32; 6], file: &mut [u8]) -> bool {
+    if !read_file(file, head[5]) {
+        return false;
+    }
+    if !print_case(head[0], wide(head[1]), file, head[3] == 1, head[4]) {
+        return false;
+    }
+    io::write_all(STDOUT_FILENO, b"\n");
+    true
+}
+
+fn case_sized(head: [u32; 6], size: usize) -> bool {
+    if 8704 < size {
         return false;
     }
     let mut bytes = byte_space(size);
-    let mut words = word_space(count);
-    run_on(l, &mut bytes[..size], qc, &mut words[..count], seed)
+    case_on(head, &mut bytes[..size])
 }
 
 fn run_case() -> bool {
-    let mut head = [0u32; 5];
+    let mut head = [0u32; 6];
     if !read_words(&mut head) {
         return false;
     }
-    run_sized(
-        wide(head[0]),
-        wide(head[1]),
-        head[2] == 1,
-        wide(head[3]),
-        head[4],
-    )
+    case_sized(head, wide(head[2]))
 }
 
 fn main() {
