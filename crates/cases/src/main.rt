@@ -7,8 +7,8 @@ use common::bits32::word;
 use isa::types::Ran;
 use libc::STDIN_FILENO;
 use libc::STDOUT_FILENO;
+use regfile::check::asked_number;
 use regfile::check::check_register;
-use regfile::check::checked_number;
 use regfile::part::register;
 use regfile::part::register_read;
 
@@ -127,8 +127,8 @@ fn complement(part: &mut [u8]) -> usize {
 }
 
 fn print_check(l: usize, size: usize, n: usize) {
-    let checked = check_register(l, size, n);
-    print_number(checked_number(checked) as usize);
+    let asked = check_register(l, size, n);
+    print_number(asked_number(asked) as usize);
 }
 
 fn print_part(part: &[u8]) {
