@@ -34,7 +34,6 @@ module _ (L : ℕ) (file : List ℕ) (qc : Bool) (words : List ℕ) where
   checked-short Checked.Passed = picked-short (ltb 4096 (length words)) refl
   checked-short Checked.BadLength = omega arith
   checked-short Checked.BadSize = omega arith
-  checked-short Checked.NoRegister = omega arith
 
   pub run-short : outcomeOf L file qc words .answer .done ≤ 4096
   unfolding outcomeOf

@@ -8,6 +8,7 @@ use Rattle.isa.specs.declared.types.Written.{Written}
 use Rattle.isa.specs.declared.types.Checked.{Checked}
 use Rattle.isa.specs.declared.types.Asked.{Asked}
 use Rattle.isa.specs.declared.types.Ending.{Ending}
+use Rattle.isa.specs.declared.types.ListedPart.{ListedPart}
 use Rattle.isa.specs.declared.types.Listed.{Listed}
 
 -- ---- decoding: 0 with the operation, 4 and 5 with nothing
@@ -69,8 +70,12 @@ runNumber o = endingNumber (o .answer .ending)
 abbrev pub runLeft : Outcome → State
 runLeft o = record { file = o .file; qc = o .answer .qc; done = o .answer .done }
 
--- ---- a listing. Document 01 has no number for a lent buffer that is too short; 13 is the one that request A1 gives it
+-- ---- a listing: 0 with what the text is, 13 with nothing. Document 01 has no number for a lent buffer that is too short; 13 is request A1's
 
 unfoldable pub listedNumber : Listed → ℕ
 listedNumber (Listed.Text part) = 0
 listedNumber Listed.Room = 13
+
+unfoldable pub listedPart : Listed → List ListedPart
+listedPart (Listed.Text part) = part ∷ []
+listedPart Listed.Room = []

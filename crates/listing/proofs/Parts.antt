@@ -1,5 +1,6 @@
--- What listing a piece leaves: the three cases, and the whole call.
+-- What listing a piece leaves: the three cases, the whole call, and exactly when it answers what (`list-exact`).
 use mathlib.Core.Path.{_≡_, refl, sym, ap, _∙_, subst}
+use mathlib.Core.Logic.{_↔_}
 use mathlib.Core.Bool.{Bool, true, false}
 use mathlib.Core.List.{List, [], _∷_, _++_}
 use Prim.Native.Nat.{ℕ, _+_, _*_, _-_, _/_, _%_, _≤_, _<_}
@@ -11,7 +12,8 @@ use lib.Dec.{leb, ltb}
 use lib.ListN.{length, take, drop, length-append, take-append-drop}
 use lib.Seq.{take-all}
 use Rattle.listing.specs.Listing.{PieceText, ascii, linesOf, wordsOf, tailOf, tailLine, totalLine, countLine, limitLine, limit, overOf, lastOf, moreOf, partOf}
-use Rattle.listing.specs.Call.{Wrote, PartOutcome, roomFor, textOutcome, outcomeOfPart}
+use Rattle.listing.specs.Call.{Wrote, PartOutcome, roomFor, textOutcome, outcomeOfPart, ListReturns}
+use Rattle.isa.specs.Number.{listedNumber, listedPart}
 use Rattle.isa.specs.declared.types.ListedPart.{ListedPart}
 use Rattle.isa.specs.declared.types.Listed.{Listed}
 use Rattle.listing.proofs.Placed.{placed-start, wrote-then}
@@ -94,6 +96,36 @@ pub call-more : (done : ℕ) (bytes : List ℕ) (last : Bool) (out : List ℕ) �
 unfolding partOf
 call-more done bytes last out e h l = rw (call-text done bytes last out e, words-length bytes, h, l)
 
+-- ---- when each number is given
+
+module _ (done : ℕ) (bytes : List ℕ) (last : Bool) (out : List ℕ) where
+  abbrev ListsAs : ℕ → List ListedPart → List ℕ → Type 0
+  ListsAs n part left =
+      let o = outcomeOfPart done bytes last out in
+      (listedNumber (o .answer) ≡ n) × ((listedPart (o .answer) ≡ part) × (o .out ≡ left))
+
+  lists : {n : ℕ} {part : List ListedPart} {left : List ℕ} → ListReturns done bytes last out n part left → ListsAs n part left
+  unfolding listedNumber listedPart
+  lists (ListReturns.listed h) = rw (call-text done bytes last out (le-leb (roomFor bytes) (length out) h)) (refl, (refl, refl))
+  lists (ListReturns.no-room h) = rw (sym (call-room done bytes last out (lt-leb (roomFor bytes) (length out) h))) (refl, (refl, refl))
+
+  -- what is returned is one of the lines, and the lines tell everything, so it is that one
+  the-same : {n m : ℕ} {part q : List ListedPart} {left after : List ℕ} → ListReturns done bytes last out n part left → ListsAs n part left → ListsAs m q after →
+      ListReturns done bytes last out m q after
+  the-same {n} {m} {part} {q} {left} {after} r a b =
+      subst (λ k. ListReturns done bytes last out k q after) (sym (a .0) ∙ b .0)
+      (subst (λ p. ListReturns done bytes last out n p after) (sym (a .1 .0) ∙ b .1 .0)
+      (subst (ListReturns done bytes last out n part) (sym (a .1 .1) ∙ b .1 .1) r))
+
+  returned : {n : ℕ} {part : List ListedPart} {left : List ℕ} → Dec (roomFor bytes ≤ length out) → ListsAs n part left → ListReturns done bytes last out n part left
+  returned (yes h) a = the-same (ListReturns.listed h) (lists (ListReturns.listed h)) a
+  returned (no h) a =
+      let short : length out < roomFor bytes = omega arith in
+      the-same (ListReturns.no-room short) (lists (ListReturns.no-room short)) a
+
+  pub list-exact : (n : ℕ) (part : List ListedPart) (left : List ℕ) → ListsAs n part left ↔ ListReturns done bytes last out n part left
+  list-exact n part left = (returned (decLe (roomFor bytes) (length out)), lists)
+
 -- for a caller: a text that was answered lies within the buffer
 abbrev listed-length : Listed → ℕ
 listed-length (Listed.Text p) = p .length
@@ -109,7 +141,7 @@ outcome-within done bytes last out =
       | no h ↦ rw (sym (call-room done bytes last out (lt-leb (roomFor bytes) (length out) (omega arith)))) (omega arith)
     ]
 
-pub text-within : {r : Listed} {after : List ℕ} (done : ℕ) (bytes : List ℕ) (last : Bool) (out : List ℕ) (p : Part)
+pub text-within : {r : Listed} {after : List ℕ} (done : ℕ) (bytes : List ℕ) (last : Bool) (out : List ℕ) (p : ListedPart)
     → record { answer = r; out = after } ≡ outcomeOfPart done bytes last out → r ≡ Listed.Text p → p .length ≤ length after
 text-within {r} {after} done bytes last out p e f =
     let l : p .length ≡ listed-length (outcomeOfPart done bytes last out .answer) = ap listed-length (sym f ∙ ap (λ (o : PartOutcome). o .answer) e) in

@@ -1,5 +1,5 @@
 -- What the call that lists one piece answers, and what it leaves in the lent buffer.
-use Prim.Native.Nat.{ℕ, _+_, _*_, _/_}
+use Prim.Native.Nat.{ℕ, _+_, _*_, _/_, _<_, _≤_}
 use mathlib.Core.Path.{_≡_}
 use mathlib.Core.Bool.{Bool, true, false}
 use mathlib.Core.List.{List, [], _∷_, _++_}
@@ -53,15 +53,22 @@ pickPart true a b = a
 pickPart false a b = b
 
 -- the text from the buffer's start, and behind it what stood there
+abbrev pub partAnswered : PieceText → ListedPart
+partAnswered a = record { length = length (a .text); done = a .done; ended = a .ended }
+
+abbrev pub textLeft : PieceText → List ℕ → List ℕ
+textLeft a out = a .text ++ drop (length (a .text)) out
+
 abbrev pub textOutcome : PieceText → List ℕ → PartOutcome
-textOutcome a out =
-    record {
-      answer = Listed.Text (record { length = length (a .text); done = a .done; ended = a .ended });
-      out = a .text ++ drop (length (a .text)) out;
-    }
+textOutcome a out = record { answer = Listed.Text (partAnswered a); out = textLeft a out }
 
 unfoldable pub outcomeOfPart : ℕ → List ℕ → Bool → List ℕ → PartOutcome
 outcomeOfPart done bytes last out =
     pickPart (ltb (length out) (roomFor bytes))
     (record { answer = Listed.Room; out = out })
     (textOutcome (partOf done bytes last) out)
+
+-- when each number is given, with what is answered beside it and what the buffer then holds: `list-exact` of proofs/Parts.antt
+pub data ListReturns (done : ℕ) (bytes : List ℕ) (last : Bool) (out : List ℕ) : ℕ → List ListedPart → List ℕ → Type 0 where
+  listed : roomFor bytes ≤ length out → ListReturns done bytes last out 0 (partAnswered (partOf done bytes last) ∷ []) (textLeft (partOf done bytes last) out)
+  no-room : length out < roomFor bytes → ListReturns done bytes last out 13 [] out
