@@ -1,7 +1,7 @@
 -- From lanes to the definition by pairs, for every size and for every family of products.
 -- Assumes nothing.
 use mathlib.Core.Path.{_≡_, refl, sym, ap, ap₂, _∙_}
-use mathlib.Core.Bool.{Bool, true, false, cond}
+use mathlib.Core.Bool.{Bool, true, false, cond, false≢true}
 use mathlib.Core.List.{List}
 use Prim.Native.Nat.{ℕ, zero, suc, _+_, _-_, _*_, _/_, _%_, _<_}
 use native.Mathlib.Nat.{mod-eq-of-lt}
@@ -98,7 +98,7 @@ module _ (z : Size) (choose : ℕ → ℕ) (result : Complex → Complex → Com
       (h (i / bytes z) (lane-small z i l)
       ∙ sym (ap (λ (p : ℕ). pattern (bits z) (part (i / bytes z % 2) (result (complex z c p) (complex z n p) (complex z m (choose p))))) (pair-of z i)))
 
--- part e of the result of a product form, and of a sum, by lanes
+-- part e of the result of a product form, and of a sum, by lanes; a sum has the rotations 90 and 270 alone
 product-lane : (z : Size) (choose : ℕ → ℕ) (f : ℤ → ℤ → ℤ) (r : Rotation) (c n m : Bytes) (e : ℕ) →
     part (e % 2) (each₂ f (complex z c (e / 2)) (product r (complex z n (e / 2)) (complex z m (choose (e / 2)))))
     ≡ f (element z c e) (signedBy (minusAt (minusReal r) (minusImaginary r) e) (element z n (firstPlace (crossed r) e) *ℤ element z m (secondLane choose (crossed r) e)))
@@ -106,26 +106,25 @@ product-lane z choose f r c n m e =
     lane-of z f r c n m (e / 2) (choose (e / 2)) (e % 2) (omega arith)
     ∙ ap₂ f (ap (element z c) (omega arith)) (ap₂ signedBy (minus-is (minusReal r) (minusImaginary r) e) (ap (λ x. element z n x *ℤ element z m (secondLane choose (crossed r) e)) (first-is (crossed r) e)))
 
-turned-part : (r : Rotation) (a b : Complex) (k : ℕ) → k < 2 → part k (turned r a b) ≡ part k a +ℤ signedBy (minusAt (minusReal r) (minusImaginary r) k) (part (cond (crossed r) (1 - k) k) b)
+turned-part : (r : Rotation) (a b : Complex) (k : ℕ) → crossed r ≡ true → k < 2 → part k (turned r a b) ≡ part k a +ℤ signedBy (minusAt (minusReal r) (minusImaginary r) k) (part (1 - k) b)
 unfolding turned part minusAt
-turned-part R0 a b zero h = refl
-turned-part R0 a b (suc zero) h = refl
-turned-part R90 a b zero h = refl
-turned-part R90 a b (suc zero) h = refl
-turned-part R180 a b zero h = refl
-turned-part R180 a b (suc zero) h = refl
-turned-part R270 a b zero h = refl
-turned-part R270 a b (suc zero) h = refl
-turned-part r a b (suc (suc k)) h = absurd (omega arith)
+turned-part R0 a b k x h = absurd (false≢true x)
+turned-part R90 a b zero x h = refl
+turned-part R90 a b (suc zero) x h = refl
+turned-part R90 a b (suc (suc k)) x h = absurd (omega arith)
+turned-part R180 a b k x h = absurd (false≢true x)
+turned-part R270 a b zero x h = refl
+turned-part R270 a b (suc zero) x h = refl
+turned-part R270 a b (suc (suc k)) x h = absurd (omega arith)
 
-turned-lane : (z : Size) (r : Rotation) (c m : Bytes) (e : ℕ) →
+turned-lane : (z : Size) (r : Rotation) (c m : Bytes) (e : ℕ) → crossed r ≡ true →
     part (e % 2) (turned r (complex z c (e / 2)) (complex z m (e / 2)))
-    ≡ element z c e +ℤ signedBy (minusAt (minusReal r) (minusImaginary r) e) (element z m (secondPlace (crossed r) e))
-turned-lane z r c m e =
-    turned-part r (complex z c (e / 2)) (complex z m (e / 2)) (e % 2) (omega arith)
+    ≡ element z c e +ℤ signedBy (minusAt (minusReal r) (minusImaginary r) e) (element z m (secondPlace true e))
+turned-lane z r c m e x =
+    turned-part r (complex z c (e / 2)) (complex z m (e / 2)) (e % 2) x (omega arith)
     ∙ ap₂ _+ℤ_ (part-element z c (e / 2) (e % 2) (omega arith) ∙ ap (element z c) (omega arith))
     (ap₂ signedBy (minus-is (minusReal r) (minusImaginary r) e)
-    (part-element z m (e / 2) (cond (crossed r) (1 - e % 2) (e % 2)) (other (crossed r) (e % 2) (omega arith)) ∙ ap (element z m) (second-is (crossed r) e)))
+    (part-element z m (e / 2) (1 - e % 2) (omega arith) ∙ ap (element z m) (second-is true e)))
 
 -- ---- the stages of a kernel
 
@@ -199,14 +198,14 @@ unfolding part each
 part-map k a zero = refl
 part-map k a (suc j) = refl
 
--- the same for the sums. `same` says that what the code works out has the bits of the definition's
+-- the same for the sums, whose rotations cross. `same` says that what the code works out has the bits of the definition's
 pub sums : (z : Size) (k : ℤ → ℤ) (g : ℤ → ℤ → ℤ) → ((a b : ℤ) → pattern (bits z) (g a b) ≡ pattern (bits z) (k (a +ℤ b))) → (r : Rotation) →
-    {c m s : List ℕ} {x ml t out : List ℤ} {odd real imaginary : Bool} →
-    odd ≡ crossed r → real ≡ minusReal r → imaginary ≡ minusImaginary r →
-    LanesOf z x (bytesOf c) → LanesOf z ml (bytesOf m) → Taken z t ml (secondPlace odd) →
+    {c m s : List ℕ} {x ml t out : List ℤ} {real imaginary : Bool} →
+    crossed r ≡ true → real ≡ minusReal r → imaginary ≡ minusImaginary r →
+    LanesOf z x (bytesOf c) → LanesOf z ml (bytesOf m) → Taken z t ml (secondPlace true) →
     Added z g out x t real imaginary → BytesOfLanes z s out → Segment z own (λ a _ b. each k (turned r a b)) s c c m
 unfolding own
-sums z k g same r {c} {m} {s} {x} {ml} {t} {out} {odd} {real} {imaginary} eo er ei hx hm ht ho hs =
+sums z k g same r {c} {m} {s} {x} {ml} {t} {out} {real} {imaginary} ec er ei hx hm ht ho hs =
     record { sized = hs .sized; at = (λ i l. hs .at i l ∙ segment z own (λ a _ b. each k (turned r a b)) (bytesOf c) (bytesOf c) (bytesOf m) (lane out) results i l) }
   where
     results : (e : ℕ) → e < 2 * pairs z → pattern (bits z) (lane out e) ≡ pattern (bits z) (part (e % 2) (each k (turned r (complex z (bytesOf c) (e / 2)) (complex z (bytesOf m) (own (e / 2))))))
@@ -216,6 +215,6 @@ sums z k g same r {c} {m} {s} {x} {ml} {t} {out} {odd} {real} {imaginary} eo er 
         (ap k
         (ap₂ _+ℤ_ (hx .at e h)
         (ap₂ signedBy (ap₂ (λ a b. minusAt a b e) er ei)
-        (ht .at e h ∙ ap (λ (o : Bool). lane ml (secondPlace o e)) eo ∙ hm .at (secondPlace (crossed r) e) (second-below (crossed r) e (pairs z) h)))
-        ∙ sym (turned-lane z r (bytesOf c) (bytesOf m) e))
+        (ht .at e h ∙ hm .at (secondPlace true e) (second-below true e (pairs z) h)))
+        ∙ sym (turned-lane z r (bytesOf c) (bytesOf m) e ec))
         ∙ sym (part-map k (turned r (complex z (bytesOf c) (e / 2)) (complex z (bytesOf m) (e / 2))) (e % 2)))

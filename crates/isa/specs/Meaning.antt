@@ -16,11 +16,12 @@ pub use Rattle.isa.specs.declared.types.Op.the-variants.{Cadd, Sqcadd, C
 
 -- ---- pairs
 
--- a plus b turned by the rotation. CADD and SQCADD have only 90 and 270.
+-- a plus b turned by the rotation. CADD and SQCADD have only 90 and 270. No word decodes to another rotation (`decoded-valid`) and writing
+-- refuses it; the function has to say something there, and leaves a.
 unfoldable pub turned : Rotation → Complex → Complex → Complex
-turned R0 a b = record { re = a .re +ℤ b .re; im = a .im +ℤ b .im }
+turned R0 a b = a
 turned R90 a b = record { re = a .re -ℤ b .im; im = a .im +ℤ b .re }
-turned R180 a b = record { re = a .re -ℤ b .re; im = a .im -ℤ b .im }
+turned R180 a b = a
 turned R270 a b = record { re = a .re +ℤ b .im; im = a .im -ℤ b .re }
 
 -- What a product form adds to the addend, exactly.

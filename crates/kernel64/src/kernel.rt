@@ -1,6 +1,7 @@
-// The families by vectors. Each is there twice, by whether its rotation crosses: the loops over registers choose the
-// rotation once, outside, and the compiler sees a constant where a lane takes its sources. The two are `pub` for those
-// loops, whose callers have looked at the rotation.
+// The families by vectors. CADD and SQCADD have only the rotations by 90 and 270 degrees, which cross. CMLA and SQRDCMLAH
+// are there twice, by whether the rotation crosses: the loops over registers choose the rotation once, outside, and the
+// compiler sees a constant where a lane takes its sources. These are `pub` for those loops, whose callers have looked at
+// the rotation.
 ghost use mathlib.Core.Path.{_≡_};
 ghost use mathlib.Core.Bool.{true, false};
 ghost use Rattle.isa.specs.Meaning.{own, caddOf, sqcaddOf, cmlaOf, sqrdcmlahOf};
@@ -20,62 +21,24 @@ use common::rotation::minus_real;
 use isa::types::Rotation;
 use isa::types::Size;
 
-// CADD on one segment.
-pub fn cadd_straight(c: [u8; 16], m: [u8; 16], rot: Rotation) -> [u8; 16]
-    requires { ⌜ crossed rot ≡ false ⌝ }
-    ensures { λ r. ⌜ Segment Size.D own (caddOf rot) r c c m ⌝ }
-{
-    let x = lanes(c);
-    let z = turned(lanes(m), false);
-    bytes(adds(x, z, minus_real(rot), minus_imaginary(rot)))
-}
-
-pub fn cadd_crossed(c: [u8; 16], m: [u8; 16], rot: Rotation) -> [u8; 16]
-    requires { ⌜ crossed rot ≡ true ⌝ }
-    ensures { λ r. ⌜ Segment Size.D own (caddOf rot) r c c m ⌝ }
-{
-    let x = lanes(c);
-    let z = turned(lanes(m), true);
-    bytes(adds(x, z, minus_real(rot), minus_imaginary(rot)))
-}
-
+// CADD on one segment, by 90 or 270 degrees.
 pub fn cadd(c: [u8; 16], m: [u8; 16], rot: Rotation) -> [u8; 16]
+    requires { ⌜ crossed rot ≡ true ⌝ }
     ensures { λ r. ⌜ Segment Size.D own (caddOf rot) r c c m ⌝ }
 {
-    if crosses(rot) {
-        cadd_crossed(c, m, rot)
-    } else {
-        cadd_straight(c, m, rot)
-    }
-}
-
-// SQCADD on one segment.
-pub fn sqcadd_straight(c: [u8; 16], m: [u8; 16], rot: Rotation) -> [u8; 16]
-    requires { ⌜ crossed rot ≡ false ⌝ }
-    ensures { λ r. ⌜ Segment Size.D own (sqcaddOf 64 rot) r c c m ⌝ }
-{
     let x = lanes(c);
-    let z = turned(lanes(m), false);
-    bytes(sats(x, z, minus_real(rot), minus_imaginary(rot)))
+    let z = turned(lanes(m), true);
+    bytes(adds(x, z, minus_real(rot), minus_imaginary(rot)))
 }
 
-pub fn sqcadd_crossed(c: [u8; 16], m: [u8; 16], rot: Rotation) -> [u8; 16]
+// SQCADD on one segment, by 90 or 270 degrees.
+pub fn sqcadd(c: [u8; 16], m: [u8; 16], rot: Rotation) -> [u8; 16]
     requires { ⌜ crossed rot ≡ true ⌝ }
     ensures { λ r. ⌜ Segment Size.D own (sqcaddOf 64 rot) r c c m ⌝ }
 {
     let x = lanes(c);
     let z = turned(lanes(m), true);
     bytes(sats(x, z, minus_real(rot), minus_imaginary(rot)))
-}
-
-pub fn sqcadd(c: [u8; 16], m: [u8; 16], rot: Rotation) -> [u8; 16]
-    ensures { λ r. ⌜ Segment Size.D own (sqcaddOf 64 rot) r c c m ⌝ }
-{
-    if crosses(rot) {
-        sqcadd_crossed(c, m, rot)
-    } else {
-        sqcadd_straight(c, m, rot)
-    }
 }
 
 // CMLA on one segment.

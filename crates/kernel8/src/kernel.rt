@@ -1,6 +1,7 @@
-// The families by vectors. Each is there for the rotations by 0 and 180 degrees, `straight`, and for those by 90 and 270, `crossed`:
-// so the rotation is chosen once, outside the loops over lanes and over registers, and the compiler sees a constant in them.
-// They are public because the crates of loops over registers call them, having looked at the rotation. The third takes any rotation.
+// The families by vectors. CADD and SQCADD have only the rotations by 90 and 270 degrees. CMLA and SQRDCMLAH are there for the
+// rotations by 0 and 180 degrees, `straight`, and for those by 90 and 270, `crossed`: so the rotation is chosen once, outside the
+// loops over lanes and over registers, and the compiler sees a constant in them. A third takes any rotation.
+// They are public because the crates of loops over registers call them, having looked at the rotation.
 ghost use mathlib.Core.Path.{_≡_};
 ghost use mathlib.Core.Bool.{true, false};
 ghost use Rattle.isa.specs.Meaning.{own, caddOf, sqcaddOf, cmlaOf, sqrdcmlahOf};
@@ -20,66 +21,24 @@ use common::rotation::minus_real;
 use isa::types::Rotation;
 use isa::types::Size;
 
-// CADD on one segment, by 0 or 180 degrees.
-pub fn cadd_straight(c: [u8; 16], m: [u8; 16], rot: Rotation) -> [u8; 16]
-    requires { ⌜ crossed rot ≡ false ⌝ }
-    ensures { λ r. ⌜ Segment Size.B own (caddOf rot) r c c m ⌝ }
-{
-    let x = lanes(c);
-    let z = turned(lanes(m), false);
-    bytes(adds(x, z, minus_real(rot), minus_imaginary(rot)))
-}
-
 // CADD on one segment, by 90 or 270 degrees.
-pub fn cadd_crossed(c: [u8; 16], m: [u8; 16], rot: Rotation) -> [u8; 16]
+pub fn cadd(c: [u8; 16], m: [u8; 16], rot: Rotation) -> [u8; 16]
     requires { ⌜ crossed rot ≡ true ⌝ }
     ensures { λ r. ⌜ Segment Size.B own (caddOf rot) r c c m ⌝ }
 {
     let x = lanes(c);
     let z = turned(lanes(m), true);
     bytes(adds(x, z, minus_real(rot), minus_imaginary(rot)))
-}
-
-// CADD on one segment, by any rotation.
-pub fn cadd(c: [u8; 16], m: [u8; 16], rot: Rotation) -> [u8; 16]
-    ensures { λ r. ⌜ Segment Size.B own (caddOf rot) r c c m ⌝ }
-{
-    if crosses(rot) {
-        cadd_crossed(c, m, rot)
-    } else {
-        cadd_straight(c, m, rot)
-    }
-}
-
-// SQCADD on one segment, by 0 or 180 degrees.
-pub fn sqcadd_straight(c: [u8; 16], m: [u8; 16], rot: Rotation) -> [u8; 16]
-    requires { ⌜ crossed rot ≡ false ⌝ }
-    ensures { λ r. ⌜ Segment Size.B own (sqcaddOf 8 rot) r c c m ⌝ }
-{
-    let x = lanes(c);
-    let z = turned(lanes(m), false);
-    bytes(sats(x, z, minus_real(rot), minus_imaginary(rot)))
 }
 
 // SQCADD on one segment, by 90 or 270 degrees.
-pub fn sqcadd_crossed(c: [u8; 16], m: [u8; 16], rot: Rotation) -> [u8; 16]
+pub fn sqcadd(c: [u8; 16], m: [u8; 16], rot: Rotation) -> [u8; 16]
     requires { ⌜ crossed rot ≡ true ⌝ }
     ensures { λ r. ⌜ Segment Size.B own (sqcaddOf 8 rot) r c c m ⌝ }
 {
     let x = lanes(c);
     let z = turned(lanes(m), true);
     bytes(sats(x, z, minus_real(rot), minus_imaginary(rot)))
-}
-
-// SQCADD on one segment, by any rotation.
-pub fn sqcadd(c: [u8; 16], m: [u8; 16], rot: Rotation) -> [u8; 16]
-    ensures { λ r. ⌜ Segment Size.B own (sqcaddOf 8 rot) r c c m ⌝ }
-{
-    if crosses(rot) {
-        sqcadd_crossed(c, m, rot)
-    } else {
-        sqcadd_straight(c, m, rot)
-    }
 }
 
 // CMLA on one segment, by 0 or 180 degrees.

@@ -1,5 +1,8 @@
 // Works the stored cases of standard input with the kernels, and prints the 16 bytes that come of each.
 // A case has 52 bytes: family, size, quarter turns (by element: form) and index; then 16 bytes each of the addend c, the first source n and the second source m. CADD and SQCADD use no n.
+ghost use mathlib.Core.Path.{_≡_};
+ghost use mathlib.Core.Bool.{true};
+ghost use Rattle.isa.specs.Stage.{crossed};
 use common::element::Saturated;
 use isa::types::Form;
 use isa::types::Rotation;
@@ -30,6 +33,16 @@ fn rotation_of(turns: u8) -> Rotation {
     }
 }
 
+// CADD and SQCADD have only 90 and 270: any other number of turns counts as 1.
+fn add_rotation_of(turns: u8) -> Rotation
+    ensures { λ r. ⌜ crossed r ≡ true ⌝ }
+{
+    match turns {
+        3 => Rotation::R270,
+        _ => Rotation::R90,
+    }
+}
+
 fn form_of(n: u8) -> Form {
     match n {
         0 => Form::Scalar,
@@ -40,7 +53,9 @@ fn form_of(n: u8) -> Form {
 
 // ---- a kernel for each family and size
 
-fn cadd(size: Size, rot: Rotation, c: [u8; 16], m: [u8; 16]) -> [u8; 16] {
+fn cadd(size: Size, rot: Rotation, c: [u8; 16], m: [u8; 16]) -> [u8; 16]
+    requires { ⌜ crossed rot ≡ true ⌝ }
+{
     match size {
         Size::B => kernel8::kernel::cadd(c, m, rot),
         Size::H => kernel16::kernel::cadd(c, m, rot),
@@ -49,7 +64,9 @@ fn cadd(size: Size, rot: Rotation, c: [u8; 16], m: [u8; 16]) -> [u8; 16] {
     }
 }
 
-fn sqcadd(size: Size, rot: Rotation, c: [u8; 16], m: [u8; 16]) -> [u8; 16] {
+fn sqcadd(size: Size, rot: Rotation, c: [u8; 16], m: [u8; 16]) -> [u8; 16]
+    requires { ⌜ crossed rot ≡ true ⌝ }
+{
     match size {
         Size::B => kernel8::kernel::sqcadd(c, m, rot),
         Size::H => kernel16::kernel::sqcadd(c, m, rot),
@@ -168,8 +185,8 @@ fn print_case(head: [u8; 4], c: [u8; 16], n: [u8; 16], m: [u8; 16]) {
     let form = form_of(head[2]);
     let index = wide(head[3]);
     match head[0] {
-        0 => print_bytes(cadd(size, rot, c, m)),
-        1 => print_bytes(sqcadd(size, rot, c, m)),
+        0 => print_bytes(cadd(size, add_rotation_of(head[2]), c, m)),
+        1 => print_bytes(sqcadd(size, add_rotation_of(head[2]), c, m)),
         2 => print_bytes(cmla(size, rot, c, n, m)),
         3 => print_bytes(cmla_indexed(size, rot, index, c, n, m)),
         4 => print_bytes(sqrdcmlah(size, rot, c, n, m)),

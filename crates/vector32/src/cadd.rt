@@ -20,7 +20,7 @@ pub fn cadd(l: usize, file: &mut [u8], d: usize, m: usize, rot: Rotation)
     while q < w {
         let x = read16(file, d + q);
         let z = read16(file, m + q);
-        write16(file, d + q, kernel32::kernel::cadd_crossed(x, z, rot));
+        write16(file, d + q, kernel32::kernel::cadd(x, z, rot));
         q += 16;
     }
 }

@@ -46,8 +46,8 @@ read16-requires-2 c κs = room (c .before .before .before) .second
 add-write16 : tie.Need-add-write16 Inv-loop μ-loop
 add-write16 c = let r = room (c .before .before .before .before .before) in omega (arith, r .dest, r .short)
 
-sqcadd-crossed-requires : tie.Need-sqcadd-crossed-requires Inv-loop μ-loop
-sqcadd-crossed-requires c κs = c .before .before .before .before .before .before .before .before .pre .1
+sqcadd-requires : tie.Need-sqcadd-requires Inv-loop μ-loop
+sqcadd-requires c κs = c .before .before .before .before .before .before .before .before .pre .1
 
 write16-requires : tie.Need-write16-requires Inv-loop μ-loop
 write16-requires c κs = room (c .before .before .before .before .before .before) .dest
@@ -70,8 +70,8 @@ loop-again c =
     let s = h .before .before .before in
     let a = s .args in
     sweep-on (a .l) _ (a .d) (a .d) (a .m) (a .file .now) (s .pre .0) (g .file) (g .q) (g .inv) (h .loop-test .taken)
-    (r1 .read16 .result) (r1 .read16 .result) (r2 .read162 .result) (k .sqcadd-crossed .result) (w .write16 .last .0)
-    (r1 .read16 .ensures) (r1 .read16 .ensures) (r2 .read162 .ensures) (k .sqcadd-crossed .ensures .at) (w .write16 .ensures)
+    (r1 .read16 .result) (r1 .read16 .result) (r2 .read162 .result) (k .sqcadd .result) (w .write16 .last .0)
+    (r1 .read16 .ensures) (r1 .read16 .ensures) (r2 .read162 .ensures) (k .sqcadd .ensures .at) (w .write16 .ensures)
 
 same-length : tie.Need-same-length Inv-loop μ-loop
 same-length c = c .before .loop .inv .sized
@@ -95,7 +95,7 @@ sqcadd-spec =
     add-read16-2
     read16-requires-2
     add-write16
-    sqcadd-crossed-requires
+    sqcadd-requires
     write16-requires
     add-q
     loop-less

@@ -1,14 +1,14 @@
--- `kernel8::kernel::sqcadd_straight` meets its contract: the stages make the definition.
+-- `kernel32::kernel::cadd` meets its contract: the stages make the definition.
 -- Assumes nothing.
-use mathlib.Core.Path.{refl, sym}
 use borrow.Author.Needs.{needs}
-use Rattle.integer.specs.Number.{clamp}
-use Rattle.integer.specs.Lane.{clamped}
-use Rattle.isa.specs.declared.types.Size.the-variants.{B}
-use Rattle.isa.specs.Meaning.{sqcaddOf}
+use Rattle.integer.specs.Lane.{wrapped}
+use Rattle.integer.proofs.Word.{pattern-wrapped}
+use Rattle.isa.specs.declared.types.Size.the-variants.{S}
+use Rattle.isa.specs.Register.{bits, bytes}
+use Rattle.isa.specs.Meaning.{caddOf, each}
 use Rattle.isa.proofs.Pair.{sums}
-use Rattle.kernel8.proofs.kernel.sqcadd_straight.Statement.{statement}
-use Rattle.kernel8.proofs.kernel.sqcadd_straight.Tie as tie
+use Rattle.kernel32.proofs.kernel.cadd.Statement.{statement}
+use Rattle.kernel32.proofs.kernel.cadd.Tie as tie
 
 lanes-requires : tie.Need-lanes-requires
 lanes-requires c κs = search needs
@@ -25,25 +25,25 @@ minus-real-requires c κs = search needs
 minus-imaginary-requires : tie.Need-minus-imaginary-requires
 minus-imaginary-requires c κs = search needs
 
-sats-requires : tie.Need-sats-requires
-sats-requires c κs = search needs
+adds-requires : tie.Need-adds-requires
+adds-requires c κs = search needs
 
 bytes-requires : tie.Need-bytes-requires
 bytes-requires c κs = search needs
 
 returns : tie.Need-returns
-unfolding sqcaddOf clamped
+unfolding caddOf each bits bytes
 returns c =
     let i = c .before .before in
     let k = i .before in
     let t = k .before in
     let m = t .before in
     let x = m .before in
-    sums B (clamp 8) (clamped 8) (λ a b. refl) (x .before .args .rot) (sym (x .before .pre)) (k .minus-real .ensures) (i .minus-imaginary .ensures)
-    (x .lanes .ensures) (m .lanes2 .ensures) (t .turned .ensures) (c .before .sats .ensures) (c .bytes .ensures)
+    sums S (λ v. v) (wrapped 32) (pattern-wrapped 32) (x .before .args .rot) (x .before .pre) (k .minus-real .ensures) (i .minus-imaginary .ensures)
+    (x .lanes .ensures) (m .lanes2 .ensures) (t .turned .ensures) (c .before .adds .ensures) (c .bytes .ensures)
 
-pub sqcadd-straight-spec : {M : Type 1} → statement M
-sqcadd-straight-spec =
+pub cadd-spec : {M : Type 1} → statement M
+cadd-spec =
     tie.close
     (tie.spec
     lanes-requires
@@ -51,6 +51,6 @@ sqcadd-straight-spec =
     turned-requires
     minus-real-requires
     minus-imaginary-requires
-    sats-requires
+    adds-requires
     bytes-requires
     returns)

@@ -1,14 +1,14 @@
--- `kernel8::kernel::sqcadd_crossed` meets its contract: the stages make the definition.
+-- `kernel8::kernel::sqcadd` meets its contract: the stages make the definition.
 -- Assumes nothing.
-use mathlib.Core.Path.{refl, sym}
+use mathlib.Core.Path.{refl}
 use borrow.Author.Needs.{needs}
 use Rattle.integer.specs.Number.{clamp}
 use Rattle.integer.specs.Lane.{clamped}
 use Rattle.isa.specs.declared.types.Size.the-variants.{B}
 use Rattle.isa.specs.Meaning.{sqcaddOf}
 use Rattle.isa.proofs.Pair.{sums}
-use Rattle.kernel8.proofs.kernel.sqcadd_crossed.Statement.{statement}
-use Rattle.kernel8.proofs.kernel.sqcadd_crossed.Tie as tie
+use Rattle.kernel8.proofs.kernel.sqcadd.Statement.{statement}
+use Rattle.kernel8.proofs.kernel.sqcadd.Tie as tie
 
 lanes-requires : tie.Need-lanes-requires
 lanes-requires c κs = search needs
@@ -39,11 +39,11 @@ returns c =
     let t = k .before in
     let m = t .before in
     let x = m .before in
-    sums B (clamp 8) (clamped 8) (λ a b. refl) (x .before .args .rot) (sym (x .before .pre)) (k .minus-real .ensures) (i .minus-imaginary .ensures)
+    sums B (clamp 8) (clamped 8) (λ a b. refl) (x .before .args .rot) (x .before .pre) (k .minus-real .ensures) (i .minus-imaginary .ensures)
     (x .lanes .ensures) (m .lanes2 .ensures) (t .turned .ensures) (c .before .sats .ensures) (c .bytes .ensures)
 
-pub sqcadd-crossed-spec : {M : Type 1} → statement M
-sqcadd-crossed-spec =
+pub sqcadd-spec : {M : Type 1} → statement M
+sqcadd-spec =
     tie.close
     (tie.spec
     lanes-requires

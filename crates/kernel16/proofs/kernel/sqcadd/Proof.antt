@@ -1,15 +1,14 @@
--- `kernel16::kernel::cadd_straight` meets its contract: the stages make the definition.
+-- `kernel16::kernel::sqcadd` meets its contract: the stages make the definition.
 -- Assumes nothing.
-use mathlib.Core.Path.{sym}
+use mathlib.Core.Path.{refl}
 use borrow.Author.Needs.{needs}
-use Rattle.integer.specs.Lane.{wrapped}
-use Rattle.integer.proofs.Word.{pattern-wrapped}
+use Rattle.integer.specs.Number.{clamp}
+use Rattle.integer.specs.Lane.{clamped}
 use Rattle.isa.specs.declared.types.Size.the-variants.{H}
-use Rattle.isa.specs.Register.{bits, bytes}
-use Rattle.isa.specs.Meaning.{caddOf, each}
+use Rattle.isa.specs.Meaning.{sqcaddOf}
 use Rattle.isa.proofs.Pair.{sums}
-use Rattle.kernel16.proofs.kernel.cadd_straight.Statement.{statement}
-use Rattle.kernel16.proofs.kernel.cadd_straight.Tie as tie
+use Rattle.kernel16.proofs.kernel.sqcadd.Statement.{statement}
+use Rattle.kernel16.proofs.kernel.sqcadd.Tie as tie
 
 lanes-requires : tie.Need-lanes-requires
 lanes-requires c κs = search needs
@@ -26,25 +25,25 @@ minus-real-requires c κs = search needs
 minus-imaginary-requires : tie.Need-minus-imaginary-requires
 minus-imaginary-requires c κs = search needs
 
-adds-requires : tie.Need-adds-requires
-adds-requires c κs = search needs
+sats-requires : tie.Need-sats-requires
+sats-requires c κs = search needs
 
 bytes-requires : tie.Need-bytes-requires
 bytes-requires c κs = search needs
 
 returns : tie.Need-returns
-unfolding caddOf each bits bytes
+unfolding sqcaddOf clamped
 returns c =
     let i = c .before .before in
     let k = i .before in
     let t = k .before in
     let m = t .before in
     let x = m .before in
-    sums H (λ v. v) (wrapped 16) (pattern-wrapped 16) (x .before .args .rot) (sym (x .before .pre)) (k .minus-real .ensures) (i .minus-imaginary .ensures)
-    (x .lanes .ensures) (m .lanes2 .ensures) (t .turned .ensures) (c .before .adds .ensures) (c .bytes .ensures)
+    sums H (clamp 16) (clamped 16) (λ a b. refl) (x .before .args .rot) (x .before .pre) (k .minus-real .ensures) (i .minus-imaginary .ensures)
+    (x .lanes .ensures) (m .lanes2 .ensures) (t .turned .ensures) (c .before .sats .ensures) (c .bytes .ensures)
 
-pub cadd-straight-spec : {M : Type 1} → statement M
-cadd-straight-spec =
+pub sqcadd-spec : {M : Type 1} → statement M
+sqcadd-spec =
     tie.close
     (tie.spec
     lanes-requires
@@ -52,6 +51,6 @@ cadd-straight-spec =
     turned-requires
     minus-real-requires
     minus-imaginary-requires
-    adds-requires
+    sats-requires
     bytes-requires
     returns)

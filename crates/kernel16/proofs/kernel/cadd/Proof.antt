@@ -1,15 +1,14 @@
--- `kernel8::kernel::cadd_crossed` meets its contract: the stages make the definition.
+-- `kernel16::kernel::cadd` meets its contract: the stages make the definition.
 -- Assumes nothing.
-use mathlib.Core.Path.{sym}
 use borrow.Author.Needs.{needs}
 use Rattle.integer.specs.Lane.{wrapped}
 use Rattle.integer.proofs.Word.{pattern-wrapped}
-use Rattle.isa.specs.declared.types.Size.the-variants.{B}
+use Rattle.isa.specs.declared.types.Size.the-variants.{H}
 use Rattle.isa.specs.Register.{bits, bytes}
 use Rattle.isa.specs.Meaning.{caddOf, each}
 use Rattle.isa.proofs.Pair.{sums}
-use Rattle.kernel8.proofs.kernel.cadd_crossed.Statement.{statement}
-use Rattle.kernel8.proofs.kernel.cadd_crossed.Tie as tie
+use Rattle.kernel16.proofs.kernel.cadd.Statement.{statement}
+use Rattle.kernel16.proofs.kernel.cadd.Tie as tie
 
 lanes-requires : tie.Need-lanes-requires
 lanes-requires c κs = search needs
@@ -40,11 +39,11 @@ returns c =
     let t = k .before in
     let m = t .before in
     let x = m .before in
-    sums B (λ v. v) (wrapped 8) (pattern-wrapped 8) (x .before .args .rot) (sym (x .before .pre)) (k .minus-real .ensures) (i .minus-imaginary .ensures)
+    sums H (λ v. v) (wrapped 16) (pattern-wrapped 16) (x .before .args .rot) (x .before .pre) (k .minus-real .ensures) (i .minus-imaginary .ensures)
     (x .lanes .ensures) (m .lanes2 .ensures) (t .turned .ensures) (c .before .adds .ensures) (c .bytes .ensures)
 
-pub cadd-crossed-spec : {M : Type 1} → statement M
-cadd-crossed-spec =
+pub cadd-spec : {M : Type 1} → statement M
+cadd-spec =
     tie.close
     (tie.spec
     lanes-requires
