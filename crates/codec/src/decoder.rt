@@ -162,7 +162,7 @@ fn decode_add(word: u32) -> Decoded
     match opcode {
         0b000_0001_1011 => add_operation(false, read_add(word)),
         0b000_0011_1011 => add_operation(true, read_add(word)),
-        _ => Decoded::Outside,
+        _ => Decoded::Outside, // no other opcode under 45
     }
 }
 
@@ -174,7 +174,7 @@ fn decode_vectors(word: u32, rounding: bool) -> Decoded
     let fixed = (word >> 21) % 2;
     match fixed {
         0 => mul_operation(rounding, read_mul(word)),
-        _ => Decoded::Outside,
+        _ => Decoded::Outside, // bit 21 is 1
     }
 }
 
@@ -193,7 +193,7 @@ fn decode_indexed(word: u32, rounding: bool) -> Decoded
             rounding,
             read_indexed(word, Size::S, (word >> 16) % 16, (word >> 20) % 2),
         ),
-        _ => Decoded::Outside,
+        _ => Decoded::Outside, // no other size of an indexed word
     }
 }
 
@@ -208,7 +208,7 @@ fn decode_product(word: u32) -> Decoded
         0b0011 => decode_vectors(word, true),
         0b0110 => decode_indexed(word, false),
         0b0111 => decode_indexed(word, true),
-        _ => Decoded::Outside,
+        _ => Decoded::Outside, // no other opcode under 44
     }
 }
 
@@ -244,7 +244,7 @@ fn decode_element(word: u32, form: Form) -> Decoded
     match opcode {
         0b1101_0 => decode_sized(word, form, false),
         0b1111_0 => decode_sized(word, form, true),
-        _ => Decoded::Outside,
+        _ => Decoded::Outside, // no other opcode by element
     }
 }
 
@@ -256,6 +256,6 @@ pub fn decode(word: u32) -> Decoded
         0x44 => decode_product(word),
         0x45 => decode_add(word),
         0x2F | 0x6F | 0x7F => decode_element(word, form_of(top)),
-        _ => Decoded::Outside,
+        _ => Decoded::Outside, // no other bits 31 to 24
     }
 }

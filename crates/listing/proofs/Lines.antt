@@ -77,25 +77,25 @@ lines-more ws k h =
     ∙ ap (λ (s : List ℕ). linesOf (take k ws) ++ s) (append-nil (lineOf (getD ws k 0)))
 
 -- the loop: the lines of the words passed are in place
-pub record Going (bytes out₀ : List ℕ) (count : ℕ) (out : List ℕ) (at k : ℕ) : Type 0 where
+pub record Putting (bytes out₀ : List ℕ) (count : ℕ) (out : List ℕ) (at k : ℕ) : Type 0 where
   pub within : k ≤ count
   pub below : at ≤ 21 * k
   pub sized : length out ≡ length out₀
   pub wrote : Wrote out₀ 0 (linesOf (take k (wordsOf bytes))) at out
 
-pub going-starts : (bytes out : List ℕ) (count : ℕ) → Going bytes out count out 0 0
+pub putting-starts : (bytes out : List ℕ) (count : ℕ) → Putting bytes out count out 0 0
 unfolding linesOf
-going-starts bytes out count = record { within = omega arith; below = lit≤ tt; sized = refl; wrote = wrote-none out 0 }
+putting-starts bytes out count = record { within = omega arith; below = lit≤ tt; sized = refl; wrote = wrote-none out 0 }
 
 -- a shift by 2 of a word's number is its place
 pub word-place : (bytes : List ℕ) (k : ℕ) → k < length bytes / 4 → length bytes < 2 ^ 64 → k * 4 % 2 ^ 64 ≡ k * 4
 word-place bytes k h l = omega arith
 
-pub going-on : {bytes out₀ : List ℕ} {count : ℕ} {out : List ℕ} {at k word next : ℕ} {out₁ : List ℕ} → Going bytes out₀ count out at k
+pub putting-on : {bytes out₀ : List ℕ} {count : ℕ} {out : List ℕ} {at k word next : ℕ} {out₁ : List ℕ} → Putting bytes out₀ count out at k
     → k < count → count ≤ length bytes / 4 → 21 * count ≤ length out₀ → length bytes < 2 ^ 64
     → word ≡ wordAt bytes (k * 4 % 2 ^ 64) → length out₁ ≡ length out → Wrote out at (lineOf word) next out₁
-    → Going bytes out₀ count out₁ next (k + 1)
-going-on {bytes} {out₀} {count} {out} {at} {k} {word} {next} {out₁} p h c r l e s w =
+    → Putting bytes out₀ count out₁ next (k + 1)
+putting-on {bytes} {out₀} {count} {out} {at} {k} {word} {next} {out₁} p h c r l e s w =
     let ws : List ℕ = wordsOf bytes in
     let is : word ≡ getD ws k 0 = e ∙ ap (wordAt bytes) (word-place bytes k (omega arith) l) ∙ words-at bytes k (omega arith) in
     let w′ : Wrote out at (lineOf (getD ws k 0)) next out₁ = subst (λ (x : ℕ). Wrote out at (lineOf x) next out₁) is w in
@@ -112,8 +112,8 @@ going-on {bytes} {out₀} {count} {out} {at} {k} {word} {next} {out₁} p h c r 
           (wrote-then (p .wrote) w′ (omega arith));
     }
 
-pub going-ends : {bytes out₀ : List ℕ} {count : ℕ} {out : List ℕ} {at k : ℕ} → Going bytes out₀ count out at k → count ≤ k
+pub putting-ends : {bytes out₀ : List ℕ} {count : ℕ} {out : List ℕ} {at k : ℕ} → Putting bytes out₀ count out at k → count ≤ k
     → Wrote out₀ 0 (linesOf (take count (wordsOf bytes))) at out
-going-ends {bytes} {out₀} {count} {out} {at} {k} p h =
+putting-ends {bytes} {out₀} {count} {out} {at} {k} p h =
     let e : k ≡ count = omega arith in
     subst (λ (n : ℕ). Wrote out₀ 0 (linesOf (take n (wordsOf bytes))) at out) e (p .wrote)

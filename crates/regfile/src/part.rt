@@ -2,9 +2,15 @@
 ghost use mathlib.Core.Path.{_≡_};
 ghost use Prim.Native.Nat.{_*_, _<_, _≤_};
 ghost use Rattle.isa.specs.File.{registerOf};
-ghost use Rattle.regfile.specs.Place.{Half, Short, Starts};
+ghost use Rattle.regfile.specs.Place.{Half, Short, Starts, Cut};
 use crate::check::check_register;
 use isa::types::Asked;
+
+// A part of a file, by its start and its end.
+struct Span {
+    start: usize,
+    end: usize,
+}
 
 // n * w from n / 2 * w. Called by `offset`, with the leading bits of its n.
 fn appended(half: usize, w: usize, n: usize) -> usize
@@ -41,16 +47,28 @@ pub fn starts(w: usize) -> [usize; 32]
     r
 }
 
+// From the start of register n to its end, in a file of `size` bytes; from 0 to 0 on a refusal.
+fn part_of(l: usize, size: usize, n: usize) -> Span
+    ensures { λ r. ⌜ Cut l size n (r .start) (r .end) ⌝ }
+{
+    let Asked::Found = check_register(l, size, n) else {
+        return Span { start: 0, end: 0 };
+    };
+    let w = l >> 3;
+    let a = offset(w, n);
+    Span {
+        start: a,
+        end: a + w,
+    }
+}
+
 // The part of the file for register n, to read and to fill; an empty part on a refusal.
 pub fn register(l: usize, file: &mut [u8], n: usize) -> &mut [u8]
     ensures { λ r. ⌜ now r ≡ registerOf l (now (file .entry)) n ⌝ }
 {
-    let Asked::Found = check_register(l, file.len(), n) else {
-        return &mut file[0..0];
-    };
-    let w = l >> 3;
-    let a = offset(w, n);
-    let e = a + w;
+    let s = part_of(l, file.len(), n);
+    let a = s.start;
+    let e = s.end;
     &mut file[a..e]
 }
 
@@ -58,11 +76,8 @@ pub fn register(l: usize, file: &mut [u8], n: usize) -> &mut [u8]
 pub fn register_read(l: usize, file: &[u8], n: usize) -> &[u8]
     ensures { λ r. ⌜ now r ≡ registerOf l (now (file .entry)) n ⌝ }
 {
-    let Asked::Found = check_register(l, file.len(), n) else {
-        return &file[0..0];
-    };
-    let w = l >> 3;
-    let a = offset(w, n);
-    let e = a + w;
+    let s = part_of(l, file.len(), n);
+    let a = s.start;
+    let e = s.end;
     &file[a..e]
 }

@@ -41,7 +41,7 @@ add-read16-2 : tie.Need-add-read16-2 Inv-loop μ-loop
 add-read16-2 c = let r = room (c .before .before .before) in omega (arith, r .second, r .short)
 
 read16-requires-2 : tie.Need-read16-requires-2 Inv-loop μ-loop
-read16-requires-2 c κs = room (c .before .before .before) .second
+read16-requires-2 c κs = let r = room (c .before .before .before) in omega (arith, r .second)
 
 add-write16 : tie.Need-add-write16 Inv-loop μ-loop
 add-write16 c = let r = room (c .before .before .before .before .before) in omega (arith, r .dest, r .short)
