@@ -1,6 +1,6 @@
 #!/usr/bin/env python3
-"""Writes the stored cases of the programs cases, codec_cases, kernel_cases and list, and what they must
-print.
+"""Writes the stored cases of the programs cases, codec_cases, kernel_cases, list and execute, and what
+they must print.
 
     cases.py [ROOT]            write them below ROOT (default: the repository that has this file)
     cases.py --check [ROOT]    fail if what is stored is not what would be written
@@ -18,9 +18,11 @@ from random import Random
 sys.dont_write_bytecode = True  # the repository stays as it was
 import kernel_cases
 import model
+import report
 import run_cases
 from model import ELEMENT, INDEXED, TABLE, H, Operation, S
 
+ROOT = Path(__file__).resolve().parent.parent
 REGISTERS = {"Zdn", "Zda", "Zn", "Zm", "Rd", "Rn", "Rm"}
 
 
@@ -175,11 +177,15 @@ def files():
     yield "crates/list/stdin", data
     yield "crates/list/stdout", model.listing(data)
 
+    text = (ROOT / "crates/execute/stdin").read_bytes()  # written by hand
+    yield "crates/execute/stdin", text
+    yield "crates/execute/stdout", report.report(text)
+
 
 def main(arguments):
     check = arguments[:1] == ["--check"]
     rest = arguments[1:] if check else arguments
-    root = Path(rest[0]) if rest else Path(__file__).resolve().parent.parent
+    root = Path(rest[0]) if rest else ROOT
     wrong = 0
     for name, content in files():
         path = root / name

@@ -2,13 +2,19 @@
 """Scenario tests of the program execute: what it takes, and what it says of bad input.
 
     python3 tests/execute.py PROGRAM
-    python3 tests/execute.py PROGRAM --shown    also how changed registers are printed
+    python3 tests/execute.py PROGRAM --shown    also runs that change registers, held to the independent model
 """
 
 import os
 import subprocess
 import sys
 import tempfile
+from pathlib import Path
+
+ROOT = Path(__file__).resolve().parent.parent
+sys.dont_write_bytecode = True  # the repository stays as it was
+sys.path.insert(0, str(ROOT / "reference"))
+import report
 
 PATIENCE = 60  # seconds in which a run must end by itself
 
@@ -56,6 +62,17 @@ def empty_run(text, qc=0):
 def illegal(text, qc=0):
     """A text with an illegal length: all of it is taken, and nothing is run."""
     prints(text, b"answer 1 length not legal", b"words done 0", b"qc %d" % qc)
+
+
+def as_modelled(text):
+    expect(run(data=text), report.report(text), b"")
+
+
+def documented(text, printed):
+    """The document's own example."""
+    if printed != report.report(text):
+        raise Fault("the document has another output than the model")
+    as_modelled(text)
 
 
 def says_longer(data):
@@ -170,18 +187,22 @@ def outside_the_text():
 
 
 def shown():
-    """Case P8 of document 01 by bytes in 2 segments, and a lane of each size that becomes a - b.i = -1 - 1."""
+    _, text, _, printed, _ = (ROOT / "docs/execute.md").read_bytes().split(b"```")
+    yield "the document's example", documented, text.lstrip(b"\n"), printed.lstrip(b"\n")
+    # Case P8 of document 01 in 2 segments, and with a word outside the set and a reserved one after it.
     two = b"length 256\nz 1 8080 0000000000000000000000000000 8080\nword 4501D820\n"
-    line = b"z0 " + b" ".join([b"7F80" + b"00" * 14] * 2)
-    yield "two groups of bytes", prints, two, b"answer 0 done", b"words done 1", b"qc 0", line
+    yield "two groups of bytes", as_modelled, two
+    for word in (b"7", b"2F00F000"):
+        yield f"word {word} at last", as_modelled, two + b"word %s\nword 4501D820\n" % word
     for number, (size, width) in enumerate(((b"b", 1), (b"h", 2), (b"s", 4), (b"d", 8))):
         word = 0x4500D865 | number << 22  # CADD z5, z5, z3, 90
         text = b"length 128\nshow %s\nz 5 %s\nz 3 %s 01\nword %08x\n" % (size, b"ff" * width, b"00" * width, word)
-        line = b"z5 -2" + b" 0" * (16 // width - 1)
-        yield f"lanes {size}", prints, text, b"answer 0 done", b"words done 1", b"qc 0", line
+        yield f"lanes {size}", as_modelled, text
         least = b"length 128\nshow %s\nz 3 %s80\nword %08x\n" % (size, b"00" * (width - 1), word)
-        line = b"z5 0 %d" % -(1 << 8 * width - 1) + b" 0" * (16 // width - 2)
-        yield f"the least lane {size}", prints, least, b"answer 0 done", b"words done 1", b"qc 0", line
+        yield f"the least lane {size}", as_modelled, least
+    # CADD zN, zN, z31, 90 of -128 in every lane: 0 - -128 and 0 + -128 are -128.
+    words = b"".join(b"word %08x\n" % (0x4500DBE0 | n) for n in range(32))
+    yield "the longest report", as_modelled, b"length 2048\nshow b\nz 31 %s\n%s" % (b"80" * 256, words)
 
 
 def main(parts):

@@ -1,0 +1,79 @@
+#!/usr/bin/env python3
+"""The independent model of the program execute, for texts with nothing wrong in them.
+
+Written from docs/execute.md alone, over the model of execution.
+
+    report.py < FILE
+"""
+
+import sys
+
+sys.dont_write_bytecode = True  # the repository stays as it was
+import execution
+from execution import OUTSIDE, RESERVED
+
+MEANING = (
+    "done",
+    "length not legal",
+    "file not 4 x L bytes",
+    "more than 4,096 words",
+    "word outside the set",
+    "reserved word",
+)
+WIDTH = {"b": 1, "h": 2, "s": 4, "d": 8}
+
+
+def statements(text):
+    """The words of each line that has any."""
+    for line in text.decode("ascii").split("\n"):
+        words = line.split("#")[0].split()
+        if words:
+            yield words
+
+
+def parts(data, width):
+    return [data[at : at + width] for at in range(0, len(data), width)]
+
+
+def contents(register, size):
+    if size is None:
+        return " ".join(part.hex().upper() for part in parts(register, 16))
+    return " ".join(str(int.from_bytes(part, "little", signed=True)) for part in parts(register, WIDTH[size]))
+
+
+def lines(text):
+    length, flag, size, words, given = 0, False, None, [], {}
+    for name, *rest in statements(text):
+        if name == "length":
+            length = int(rest[0])
+        elif name == "qc":
+            flag = rest[0] == "1"
+        elif name == "show":
+            size = rest[0]
+        elif name == "word":
+            words.append(int(rest[0], 16))
+        else:
+            given[int(rest[0])] = bytes.fromhex("".join(rest[1:]))
+    width = length // 8
+    registers = b"".join(given.get(n, b"").ljust(width, b"\0") for n in range(32))
+    file = registers.ljust(4 * length, b"\0")
+    ran = execution.run(length, file, flag, words)
+
+    yield f"answer {ran.number} {MEANING[ran.number]}"
+    yield f"words done {ran.done}"
+    yield f"qc {ran.flag:d}"
+    if ran.number in (OUTSIDE, RESERVED):
+        yield f"at word {ran.done} {words[ran.done]:08X}"
+    for n in range(32):
+        place = slice(n * width, (n + 1) * width)
+        if ran.file[place] != file[place]:
+            yield f"z{n} {contents(ran.file[place], size)}"
+
+
+def report(text):
+    """What the program prints for the text."""
+    return "".join(line + "\n" for line in lines(text)).encode("ascii")
+
+
+if __name__ == "__main__":
+    sys.stdout.buffer.write(report(sys.stdin.buffer.read()))
