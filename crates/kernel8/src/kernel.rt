@@ -1,7 +1,7 @@
 // The families by vectors. CADD and SQCADD have only the rotations by 90 and 270 degrees. CMLA and SQRDCMLAH are there for the
 // rotations by 0 and 180 degrees, `straight`, and for those by 90 and 270, `crossed`: so the rotation is chosen once, outside the
 // loops over lanes and over registers, and the compiler sees a constant in them. A third takes any rotation.
-// They are public because the crates of loops over registers call them, having looked at the rotation.
+// Inner: lent to the crates of loops over registers, which have looked at the rotation.
 ghost use mathlib.Core.Path.{_≡_};
 ghost use mathlib.Core.Bool.{true, false};
 ghost use Rattle.isa.specs.Meaning.{own, caddOf, sqcaddOf, cmlaOf, sqrdcmlahOf};
