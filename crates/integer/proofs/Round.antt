@@ -5,7 +5,7 @@ use mathlib.Core.Bool.{Bool, true, false, cond}
 use Prim.Native.Nat.{ℕ, zero, suc, _+_, _-_, _*_, _/_, _^_, _≤_, _<_}
 use native.Mathlib.Nat.{mul-add-div-right, le-refl, add-mul, mul-assoc, add-sub-cancel}
 use native.Mathlib.Omega.{arith}
-use lib.IntN.{ℤ, pos, negsuc, negℤ, _+ℤ_, _*ℤ_, *ℤ-comm, +ℤ-assoc}
+use lib.IntN.{ℤ, pos, negsuc, negℤ, _+ℤ_, _*ℤ_, *ℤ-comm, +ℤ-assoc, +ℤ-idl}
 use borrow.Author.Tests.{ltb-false, le-ltb}
 use lib.Pow.{pow-add, pow-pos}
 use lib.Signed.{ltZ, shrZ, mag, natAbs-le}
@@ -36,10 +36,20 @@ round-halved s q e c t =
     rw (add-sub-cancel s 1, pow-add 2 s 1)
     (ap (λ (z : ℤ). shrZ z (2 ^ s * 2)) (doubled (2 ^ s) q e c t) ∙ shr-double (c *ℤ pos (2 ^ s) +ℤ pos q +ℤ t) (2 ^ s))
 
--- what the code works out
-pub round-apart : (s q : ℕ) → 2 ^ s ≡ q * 2 → (c t : ℤ) → rounded (s + 1) c t ≡ c +ℤ shrZ (pos q +ℤ t) (2 ^ s)
-round-apart s q e c t =
-    round-halved s q e c t ∙ ap (λ (z : ℤ). shrZ z (2 ^ s)) (+ℤ-assoc (c *ℤ pos (2 ^ s)) (pos q) t) ∙ shr-whole (2 ^ s) (pow-pos s) c (pos q +ℤ t)
+-- what the code works out: what is added to c
+pub round-upper : (s q : ℕ) → 2 ^ s ≡ q * 2 → (t : ℤ) → rounded (s + 1) (pos 0) t ≡ shrZ (pos q +ℤ t) (2 ^ s)
+round-upper s q e t =
+    let none : 0 * 2 ^ s + q ≡ q = omega arith in
+    round-halved s q e (pos 0) t ∙ ap (λ (k : ℕ). shrZ (pos k +ℤ t) (2 ^ s)) none
+
+-- for elements of N bits
+round-out : (N : ℕ) (c t : ℤ) → rounded N c t ≡ c +ℤ shrZ (pos 2 *ℤ t +ℤ pos (2 ^ (N - 1))) (2 ^ N)
+unfolding rounded
+round-out N c t =
+    ap (λ (z : ℤ). shrZ z (2 ^ N)) (+ℤ-assoc (c *ℤ pos (2 ^ N)) (pos 2 *ℤ t) (pos (2 ^ (N - 1)))) ∙ shr-whole (2 ^ N) (pow-pos N) c (pos 2 *ℤ t +ℤ pos (2 ^ (N - 1)))
+
+pub round-apart : (N : ℕ) (c t : ℤ) → rounded N c t ≡ c +ℤ rounded N (pos 0) t
+round-apart N c t = round-out N c t ∙ ap (λ (z : ℤ). c +ℤ z) (sym (round-out N (pos 0) t ∙ +ℤ-idl _))
 
 -- ---- ranges
 

@@ -16,7 +16,7 @@ use mir.Facts.{toZ-ofZ}
 use Rattle.integer.specs.Number.{rounded, signedBy, signed, pattern, wrap}
 use Rattle.integer.specs.Lane.{SumIn, Toward}
 use Rattle.integer.proofs.Word.{kept, pattern-narrow}
-use Rattle.integer.proofs.Round.{round-apart, sum-mag, product-mag, signed-mag}
+use Rattle.integer.proofs.Round.{round-upper, round-apart, sum-mag, product-mag, signed-mag}
 use Rattle.integer.proofs.Bits.{half}
 use Rattle.integer.proofs.Toward.{toward, toward-addend}
 
@@ -61,7 +61,7 @@ module _ {n w : Width} {q : ℕ} (r : Wide n w q) where
   product-read f g = simp (read-cast f, read-cast g, toZ-ofZ (fits-exact f g))
 
   -- what the product's local reads
-  pub exact : {a b p : ℤ} → SFits n a → SFits n b → mag p < 2 ^ hbits w → p ≡ toZ n (ofZ n a) *ℤ toZ n (ofZ n b) → toZ w (ofZ w p) ≡ a *ℤ b
+  exact : {a b p : ℤ} → SFits n a → SFits n b → mag p < 2 ^ hbits w → p ≡ toZ n (ofZ n a) *ℤ toZ n (ofZ n b) → toZ w (ofZ w p) ≡ a *ℤ b
   exact f g h e = kept w _ h ∙ e ∙ simp (toZ-ofZ f, toZ-ofZ g)
 
   -- a sum of a lane and of a number as large as a product
@@ -84,47 +84,52 @@ module _ {n w : Width} {q : ℕ} (r : Wide n w q) where
   pub read-plus-minus : {minus : Bool} (t : Bool) {x y : ℤ} → minus ≡ t → SFits w x → SFits w y → SumIn (hbits n) x y → toZ w (ofZ w (toZ w (ofZ w x) +ℤ signedBy t (toZ w (ofZ w y)))) ≡ x +ℤ signedBy minus y
   read-plus-minus t e f g i = simp (toZ-ofZ f, toZ-ofZ g, toZ-ofZ (fits-sum t i), e)
 
-  -- the rounded sum. v is what the code reads for a quarter and the product
-  pub quarter-in : {a b p : ℤ} → SFits n a → SFits n b → p ≡ a *ℤ b → SumIn (hbits n) (pos q) p
-  quarter-in f g e = rw e (product-in (omega (arith, r .even, pow-pos (hbits n))) f g)
+  -- what is added to a lane: a product of two lanes, or its negative, doubled and rounded to its upper half
+  module _ (minus : Bool) {a b : ℤ} (f : SFits n a) (g : SFits n b) where
+    upper-shifted : rounded (bits n) (pos 0) (signedBy minus (a *ℤ b)) ≡ shrZ (pos q +ℤ signedBy minus (a *ℤ b)) (2 ^ hbits n)
+    upper-shifted = rw (r .one-more) (round-upper (hbits n) q (r .even) (signedBy minus (a *ℤ b)))
 
-  module _ (minus : Bool) {c a b v : ℤ} (fc : SFits n c) (fa : SFits n a) (fb : SFits n b) (e : v ≡ pos q +ℤ signedBy minus (a *ℤ b)) where
-    shifted : mag (shrZ v (2 ^ hbits n)) < q + (2 ^ hbits n * 2 ^ hbits n) + 4
-    shifted =
-        lt-of-le-of-lt (mag-shr v (2 ^ hbits n))
-        (rw e (omega (arith, sum-mag (pos q) (signedBy minus (a *ℤ b)) (q + 1) (2 ^ hbits n * 2 ^ hbits n + 1 + 1) (omega arith) (signed-mag minus (a *ℤ b) (product-mag (hbits n) a b (fa .sfits) (fb .sfits))))))
+    upper-mag : mag (rounded (bits n) (pos 0) (signedBy minus (a *ℤ b))) < q + (2 ^ hbits n * 2 ^ hbits n) + 4
+    upper-mag =
+        rw upper-shifted
+        (lt-of-le-of-lt (mag-shr (pos q +ℤ signedBy minus (a *ℤ b)) (2 ^ hbits n))
+        (omega (arith, sum-mag (pos q) (signedBy minus (a *ℤ b)) (q + 1) (2 ^ hbits n * 2 ^ hbits n + 1 + 1) (omega arith) (signed-mag minus (a *ℤ b) (product-mag (hbits n) a b (f .sfits) (g .sfits))))))
 
-    fits-shifted : SFits w (shrZ v (2 ^ hbits n))
-    fits-shifted = record { sfits = omega (arith, shifted, r .room) }
+    fits-upper : SFits w (rounded (bits n) (pos 0) (signedBy minus (a *ℤ b)))
+    fits-upper = record { sfits = omega (arith, upper-mag, r .room) }
 
-    fits-total : SFits w (c +ℤ shrZ v (2 ^ hbits n))
-    fits-total = record { sfits = omega (arith, sum-mag c (shrZ v (2 ^ hbits n)) (2 ^ hbits n) (q + (2 ^ hbits n * 2 ^ hbits n) + 4) (fc .sfits) shifted, r .room) }
+    -- p is the product, and v what is read of a quarter and p
+    pub read-upper : {p v : ℤ} → mag p < 2 ^ hbits w → p ≡ toZ n (ofZ n a) *ℤ toZ n (ofZ n b) → mag v < 2 ^ hbits w → v ≡ pos q +ℤ signedBy minus (toZ w (ofZ w p)) → toZ w (ofZ w (shrZ (toZ w (ofZ w v)) (2 ^ hbits n))) ≡ rounded (bits n) (pos 0) (signedBy minus (a *ℤ b))
+    read-upper h e k s = rw (kept w _ k ∙ s, exact f g h e, sym upper-shifted) (toZ-ofZ fits-upper)
 
-    pub fits-rounded : SFits w (toZ w (ofZ w (toZ n (ofZ n c))) +ℤ toZ w (ofZ w (shrZ v (2 ^ hbits n))))
-    fits-rounded = simp (read-cast fc, toZ-ofZ fits-shifted) fits-total
+    -- u is that upper half, and c the lane
+    module _ {c u : ℤ} (i : SFits n c) (h : mag u < 2 ^ hbits w) (e : u ≡ rounded (bits n) (pos 0) (signedBy minus (toZ n (ofZ n a) *ℤ toZ n (ofZ n b)))) where
+      upper-read : toZ w (ofZ w u) ≡ rounded (bits n) (pos 0) (signedBy minus (a *ℤ b))
+      upper-read = kept w _ h ∙ e ∙ simp (toZ-ofZ f, toZ-ofZ g)
 
-    halved : toZ w (ofZ w (toZ w (ofZ w (toZ n (ofZ n c))) +ℤ toZ w (ofZ w (shrZ v (2 ^ hbits n))))) ≡ rounded (hbits n + 1) c (signedBy minus (a *ℤ b))
-    halved =
-        simp (read-cast fc, toZ-ofZ fits-shifted, toZ-ofZ fits-total)
-        (ap (λ (z : ℤ). c +ℤ shrZ z (2 ^ hbits n)) e ∙ sym (round-apart (hbits n) q (r .even) c (signedBy minus (a *ℤ b))))
+      fits-total : SFits w (c +ℤ rounded (bits n) (pos 0) (signedBy minus (a *ℤ b)))
+      fits-total = record { sfits = omega (arith, sum-mag c (rounded (bits n) (pos 0) (signedBy minus (a *ℤ b))) (2 ^ hbits n) (q + (2 ^ hbits n * 2 ^ hbits n) + 4) (i .sfits) upper-mag, r .room) }
 
-    -- what is added to c picks the end of the clamp
-    pub toward-rounded : Toward (bits n) (toZ w (ofZ w (toZ w (ofZ w (toZ n (ofZ n c))) +ℤ toZ w (ofZ w (shrZ v (2 ^ hbits n)))))) (toZ w (ofZ w (shrZ v (2 ^ hbits n))))
-    toward-rounded = simp (read-cast fc, toZ-ofZ fits-shifted, toZ-ofZ fits-total) (toward (bits n) c (shrZ v (2 ^ hbits n)) (abs-lane fc))
+      pub fits-rounded : SFits w (toZ w (ofZ w (toZ n (ofZ n c))) +ℤ toZ w (ofZ w u))
+      fits-rounded = rw (read-cast i, upper-read) fits-total
 
-    pub read-rounded : toZ w (ofZ w (toZ w (ofZ w (toZ n (ofZ n c))) +ℤ toZ w (ofZ w (shrZ v (2 ^ hbits n))))) ≡ rounded (bits n) c (signedBy minus (a *ℤ b))
-    read-rounded = halved ∙ ap (λ (N : ℕ). rounded N c (signedBy minus (a *ℤ b))) (sym (r .one-more))
+      pub read-rounded : toZ w (ofZ w (toZ w (ofZ w (toZ n (ofZ n c))) +ℤ toZ w (ofZ w u))) ≡ rounded (bits n) c (signedBy minus (a *ℤ b))
+      read-rounded = rw (read-cast i, upper-read) (toZ-ofZ fits-total ∙ sym (round-apart (bits n) c (signedBy minus (a *ℤ b))))
 
-  -- the product p of a and b, and what the sum of a quarter and it, and of a lane and it, reads
-  module _ (minus : Bool) {a b p : ℤ} (f : SFits n a) (g : SFits n b) (h : mag p < 2 ^ hbits w) (e : p ≡ toZ n (ofZ n a) *ℤ toZ n (ofZ n b)) where
-    pub total : {v : ℤ} → mag v < 2 ^ hbits w → v ≡ pos q +ℤ signedBy minus (toZ w (ofZ w p)) → toZ w (ofZ w v) ≡ pos q +ℤ signedBy minus (a *ℤ b)
-    total k s = kept w _ k ∙ s ∙ ap (λ (z : ℤ). pos q +ℤ signedBy minus z) (exact f g h e)
+      -- what is added picks the end of the clamp
+      pub toward-rounded : Toward (bits n) (toZ w (ofZ w (toZ w (ofZ w (toZ n (ofZ n c))) +ℤ toZ w (ofZ w u)))) (toZ w (ofZ w u))
+      toward-rounded = rw (read-cast i, upper-read, toZ-ofZ fits-total) (toward (bits n) c (rounded (bits n) (pos 0) (signedBy minus (a *ℤ b))) (abs-lane i))
 
-    pub product-sum : {c s : ℤ} → SFits n c → s ≡ toZ w (ofZ w (toZ n (ofZ n c))) +ℤ signedBy minus (toZ w (ofZ w p)) → s ≡ c +ℤ signedBy minus (a *ℤ b)
-    product-sum i s = s ∙ ap₂ (λ x z. x +ℤ signedBy minus z) (read-cast i) (exact f g h e)
+  -- the product p of a and b, and the sum of a lane, or of a smaller number, and it
+  module _ {a b p : ℤ} (f : SFits n a) (g : SFits n b) (h : mag p < 2 ^ hbits w) (e : p ≡ toZ n (ofZ n a) *ℤ toZ n (ofZ n b)) where
+    pub small-in : {x : ℤ} → mag x < 2 ^ hbits n → SumIn (hbits n) x (toZ w (ofZ w p))
+    small-in k = rw (exact f g h e) (product-in k f g)
 
-  pub sum-in : {c a b p : ℤ} → SFits n c → SFits n a → SFits n b → mag p < 2 ^ hbits w → p ≡ toZ n (ofZ n a) *ℤ toZ n (ofZ n b) → SumIn (hbits n) (toZ w (ofZ w (toZ n (ofZ n c)))) (toZ w (ofZ w p))
-  sum-in i f g h e = rw (read-cast i, exact f g h e) (product-in (i .sfits) f g)
+    pub sum-in : {c : ℤ} → SFits n c → SumIn (hbits n) (toZ w (ofZ w (toZ n (ofZ n c)))) (toZ w (ofZ w p))
+    sum-in i = rw (read-cast i) (small-in (i .sfits))
+
+    pub product-sum : (minus : Bool) {c s : ℤ} → SFits n c → s ≡ toZ w (ofZ w (toZ n (ofZ n c))) +ℤ signedBy minus (toZ w (ofZ w p)) → s ≡ c +ℤ signedBy minus (a *ℤ b)
+    product-sum minus i s = s ∙ ap₂ (λ x z. x +ℤ signedBy minus z) (read-cast i) (exact f g h e)
 
   -- what is read of a lane that f makes of a wider number
   pub read-through : (f : ℤ → ℤ) {v s y : ℤ} → mag v < 2 ^ hbits n → mag s < 2 ^ hbits w → v ≡ f (toZ w (ofZ w s)) → s ≡ y → toZ n (ofZ n v) ≡ f y

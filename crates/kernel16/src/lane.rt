@@ -1,6 +1,6 @@
 // One lane of 16 bits, worked out exactly in 32.
 ghost use mathlib.Core.Path.{_≡_};
-ghost use lib.IntN.{_+ℤ_, _*ℤ_};
+ghost use lib.IntN.{pos, _+ℤ_, _*ℤ_};
 ghost use Rattle.integer.specs.Number.{rounded, clamp, clamps, wrap, signedBy};
 ghost use Rattle.integer.specs.Lane.{saturated, wrapped, clamped, SumIn};
 use crate::product::product;
@@ -42,12 +42,18 @@ fn plus_minus(x: i32, y: i32, minus: bool) -> i32
     if minus { x - y } else { x + y }
 }
 
+// The product of a and b, or its negative, doubled and rounded to its upper half. Nothing is clamped.
+fn upper(a: i16, b: i16, minus: bool) -> i32
+    ensures { λ r. ⌜ r ≡ rounded 16 (pos 0) (signedBy minus (a *ℤ b)) ⌝ }
+{
+    plus_minus(16384, product(a, b), minus) >> 15
+}
+
 // c and the product of a and b, or its negative, doubled and rounded to its upper half.
 pub fn rounding(c: i16, a: i16, b: i16, minus: bool) -> i32
     ensures { λ r. ⌜ r ≡ rounded 16 c (signedBy minus (a *ℤ b)) ⌝ }
 {
-    let t = plus_minus(16384, product(a, b), minus);
-    (c as i32) + (t >> 15)
+    (c as i32) + upper(a, b, minus)
 }
 
 // The same, clamped.

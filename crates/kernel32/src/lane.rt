@@ -1,6 +1,6 @@
 // One lane of 32 bits, worked out exactly in 64.
 ghost use mathlib.Core.Path.{_≡_};
-ghost use lib.IntN.{_+ℤ_, _*ℤ_};
+ghost use lib.IntN.{pos, _+ℤ_, _*ℤ_};
 ghost use Rattle.integer.specs.Number.{rounded, clamp, clamps, wrap, signedBy};
 ghost use Rattle.integer.specs.Lane.{saturated, wrapped, clamped, SumIn, Toward};
 use crate::product::product;
@@ -56,19 +56,25 @@ fn plus_minus(x: i64, y: i64, minus: bool) -> i64
     if minus { x - y } else { x + y }
 }
 
+// The product of a and b, or its negative, doubled and rounded to its upper half. Nothing is clamped.
+fn upper(a: i32, b: i32, minus: bool) -> i64
+    ensures { λ r. ⌜ r ≡ rounded 32 (pos 0) (signedBy minus (a *ℤ b)) ⌝ }
+{
+    plus_minus(1073741824, product(a, b), minus) >> 31
+}
+
 // c and the product of a and b, or its negative, doubled and rounded to its upper half.
 pub fn rounding(c: i32, a: i32, b: i32, minus: bool) -> i64
     ensures { λ r. ⌜ r ≡ rounded 32 c (signedBy minus (a *ℤ b)) ⌝ }
 {
-    let t = plus_minus(1073741824, product(a, b), minus);
-    (c as i64) + (t >> 31)
+    (c as i64) + upper(a, b, minus)
 }
 
 // The same, clamped.
 pub fn round(c: i32, a: i32, b: i32, minus: bool) -> i32
     ensures { λ r. ⌜ r ≡ saturated 32 c (signedBy minus (a *ℤ b)) ⌝ }
 {
-    let t = plus_minus(1073741824, product(a, b), minus) >> 31;
+    let t = upper(a, b, minus);
     ended((c as i64) + t, t)
 }
 

@@ -1,6 +1,6 @@
 // One lane of 8 bits, worked out exactly in 16.
 ghost use mathlib.Core.Path.{_≡_};
-ghost use lib.IntN.{_+ℤ_, _*ℤ_};
+ghost use lib.IntN.{pos, _+ℤ_, _*ℤ_};
 ghost use Rattle.integer.specs.Number.{rounded, clamp, wrap, signedBy};
 ghost use Rattle.integer.specs.Lane.{saturated, wrapped, clamped, SumIn};
 use crate::product::product;
@@ -35,12 +35,18 @@ fn plus_minus(x: i16, y: i16, minus: bool) -> i16
     if minus { x - y } else { x + y }
 }
 
+// The product of a and b, or its negative, doubled and rounded to its upper half. Nothing is clamped.
+fn upper(a: i8, b: i8, minus: bool) -> i16
+    ensures { λ r. ⌜ r ≡ rounded 8 (pos 0) (signedBy minus (a *ℤ b)) ⌝ }
+{
+    plus_minus(64, product(a, b), minus) >> 7
+}
+
 // c and the product of a and b, or its negative, doubled and rounded to its upper half.
 pub fn rounding(c: i8, a: i8, b: i8, minus: bool) -> i16
     ensures { λ r. ⌜ r ≡ rounded 8 c (signedBy minus (a *ℤ b)) ⌝ }
 {
-    let t = plus_minus(64, product(a, b), minus);
-    (c as i16) + (t >> 7)
+    (c as i16) + upper(a, b, minus)
 }
 
 // The same, clamped.

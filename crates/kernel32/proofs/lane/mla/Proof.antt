@@ -14,7 +14,7 @@ product-requires : tie.Need-product-requires
 product-requires c κs = search needs
 
 plus-minus-requires : tie.Need-plus-minus-requires
-plus-minus-requires c κs = sum-in wide32 (c .before .fits .c) (c .before .fits .a) (c .before .fits .b) (c .product .ok) (c .product .ensures)
+plus-minus-requires c κs = sum-in wide32 (c .before .fits .a) (c .before .fits .b) (c .product .ok) (c .product .ensures) (c .before .fits .c)
 
 cut-requires : tie.Need-cut-requires
 cut-requires c κs = search needs
@@ -24,7 +24,7 @@ unfolding wrapped
 returns c =
     let s = c .before in
     let p = s .before in
-    read-through wide32 (wrap 32) (c .cut .ok) (s .plus-minus .ok) (c .cut .ensures) (product-sum wide32 (p .before .args .minus) (p .before .fits .a) (p .before .fits .b) (p .product .ok) (p .product .ensures) (p .before .fits .c) (s .plus-minus .ensures))
+    read-through wide32 (wrap 32) (c .cut .ok) (s .plus-minus .ok) (c .cut .ensures) (product-sum wide32 (p .before .fits .a) (p .before .fits .b) (p .product .ok) (p .product .ensures) (p .before .args .minus) (p .before .fits .c) (s .plus-minus .ensures))
 
 pub mla-spec : {M : Type 1} → statement M
 mla-spec =

@@ -6,42 +6,29 @@ use mir.Syntax.{w32}
 use Rattle.integer.specs.Number.{clamp}
 use Rattle.integer.specs.Lane.{saturated}
 use Rattle.integer.proofs.Word.{kept}
-use Rattle.integer.proofs.Widen.{wide32, fits-cast, exact, quarter-in, fits-rounded, read-rounded, toward-rounded, total}
+use Rattle.integer.proofs.Widen.{wide32, fits-cast, fits-rounded, read-rounded, toward-rounded}
 use Rattle.kernel32.proofs.lane.round.Statement.{statement}
 use Rattle.kernel32.proofs.lane.round.Tie as tie
 
-product-requires : tie.Need-product-requires
-product-requires c κs = search needs
-
-plus-minus-requires : tie.Need-plus-minus-requires
-plus-minus-requires c κs =
-    quarter-in wide32 (c .before .fits .a) (c .before .fits .b) (exact wide32 (c .before .fits .a) (c .before .fits .b) (c .product .ok) (c .product .ensures))
+upper-requires : tie.Need-upper-requires
+upper-requires c κs = search needs
 
 cast-ended : tie.Need-cast-ended
-cast-ended c = fits-cast wide32 (c .before .before .fits .c)
+cast-ended c = fits-cast wide32 (c .before .fits .c)
 
 add-ended : tie.Need-add-ended
-add-ended c =
-    let p = c .before in
-    let f = p .before .fits in
-    fits-rounded wide32 (p .before .args .minus) (f .c) (f .a) (f .b) (total wide32 (p .before .args .minus) (f .a) (f .b) (p .product .ok) (p .product .ensures) (c .plus-minus .ok) (c .plus-minus .ensures))
+add-ended c = search (fits-rounded wide32)
 
 ended-requires : tie.Need-ended-requires
-ended-requires c κs =
-    let p = c .before in
-    let f = p .before .fits in
-    toward-rounded wide32 (p .before .args .minus) (f .c) (f .a) (f .b) (total wide32 (p .before .args .minus) (f .a) (f .b) (p .product .ok) (p .product .ensures) (c .plus-minus .ok) (c .plus-minus .ensures))
+ended-requires c κs = search (toward-rounded wide32)
 
 returns : tie.Need-returns
 unfolding saturated
 returns c =
-    let s = c .before in
-    let p = s .before in
-    let f = p .before .fits in
+    let u = c .before in
+    let s = u .before in
     kept w32 _ (c .ended .ok) ∙ c .ended .ensures
-    ∙ ap (clamp 32) (read-rounded wide32 (p .before .args .minus) (f .c) (f .a) (f .b) (total wide32 (p .before .args .minus) (f .a) (f .b) (p .product .ok) (p .product .ensures) (s .plus-minus .ok) (s .plus-minus .ensures)))
+    ∙ ap (clamp 32) (read-rounded wide32 (s .args .minus) (s .fits .a) (s .fits .b) (s .fits .c) (u .upper .ok) (u .upper .ensures))
 
 pub round-spec : {M : Type 1} → statement M
-round-spec =
-    tie.close
-    (tie.spec product-requires plus-minus-requires cast-ended add-ended ended-requires returns)
+round-spec = tie.close (tie.spec upper-requires cast-ended add-ended ended-requires returns)

@@ -1,32 +1,21 @@
--- `kernel8::lane::rounding` meets its contract: what it works out is half of the definition's sum, and each step fits.
+-- `kernel8::lane::rounding` meets its contract: the addend comes out of the definition's division, and the sum fits.
 -- Assumes nothing.
 use borrow.Author.Needs.{needs}
-use Rattle.integer.proofs.Widen.{wide8, fits-cast, exact, quarter-in, fits-rounded, read-rounded, total}
+use Rattle.integer.proofs.Widen.{wide8, fits-cast, fits-rounded, read-rounded}
 use Rattle.kernel8.proofs.lane.rounding.Statement.{statement}
 use Rattle.kernel8.proofs.lane.rounding.Tie as tie
 
-product-requires : tie.Need-product-requires
-product-requires c κs = search needs
-
-plus-minus-requires : tie.Need-plus-minus-requires
-plus-minus-requires c κs =
-    quarter-in wide8 (c .before .fits .a) (c .before .fits .b) (exact wide8 (c .before .fits .a) (c .before .fits .b) (c .product .ok) (c .product .ensures))
-
 cast-result : tie.Need-cast-result
-cast-result c = fits-cast wide8 (c .before .before .fits .c)
+cast-result c = fits-cast wide8 (c .fits .c)
+
+upper-requires : tie.Need-upper-requires
+upper-requires c κs = search needs
 
 add-result : tie.Need-add-result
-add-result c =
-    let p = c .before in
-    let f = p .before .fits in
-    fits-rounded wide8 (p .before .args .minus) (f .c) (f .a) (f .b) (total wide8 (p .before .args .minus) (p .before .fits .a) (p .before .fits .b) (p .product .ok) (p .product .ensures) (c .plus-minus .ok) (c .plus-minus .ensures))
+add-result c = search (fits-rounded wide8)
 
 returns : tie.Need-returns
-returns c =
-    let p = c .before in
-    let f = p .before .fits in
-    read-rounded wide8 (p .before .args .minus) (f .c) (f .a) (f .b) (total wide8 (p .before .args .minus) (p .before .fits .a) (p .before .fits .b) (p .product .ok) (p .product .ensures) (c .plus-minus .ok) (c .plus-minus .ensures))
+returns c = search (read-rounded wide8)
 
 pub rounding-spec : {M : Type 1} → statement M
-rounding-spec =
-    tie.close (tie.spec product-requires plus-minus-requires cast-result add-result returns)
+rounding-spec = tie.close (tie.spec cast-result upper-requires add-result returns)
