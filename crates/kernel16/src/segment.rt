@@ -57,7 +57,7 @@ pub fn doubled(n: [i16; 8], odd: bool) -> [i16; 8]
 pub fn turned(m: [i16; 8], odd: bool) -> [i16; 8]
     ensures { λ r. ⌜ Taken Size.H r m (secondPlace odd) ⌝ }
 {
-    let mut r = [0i16; 8];
+    let mut r = m;
     for e in 0..8 {
         r[e] = if odd { m[partner(e)] } else { m[e] };
     }

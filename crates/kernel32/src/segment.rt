@@ -61,7 +61,7 @@ pub fn doubled(n: [i32; 4], odd: bool) -> [i32; 4]
 pub fn turned(m: [i32; 4], odd: bool) -> [i32; 4]
     ensures { λ r. ⌜ Taken Size.S r m (secondPlace odd) ⌝ }
 {
-    let mut r = [0i32; 4];
+    let mut r = m;
     for e in 0..4 {
         r[e] = if odd { m[partner(e)] } else { m[e] };
     }

@@ -56,7 +56,7 @@ pub fn doubled(n: [i64; 2], odd: bool) -> [i64; 2]
 pub fn turned(m: [i64; 2], odd: bool) -> [i64; 2]
     ensures { λ r. ⌜ Taken Size.D r m (secondPlace odd) ⌝ }
 {
-    let mut r = [0i64; 2];
+    let mut r = m;
     for e in 0..2 {
         r[e] = if odd { m[partner(e)] } else { m[e] };
     }

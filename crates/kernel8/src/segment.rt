@@ -48,7 +48,7 @@ pub fn doubled(n: [i8; 16], odd: bool) -> [i8; 16]
 pub fn turned(m: [i8; 16], odd: bool) -> [i8; 16]
     ensures { λ r. ⌜ Taken Size.B r m (secondPlace odd) ⌝ }
 {
-    let mut r = [0i8; 16];
+    let mut r = m;
     for e in 0..16 {
         r[e] = if odd { m[partner(e)] } else { m[e] };
     }

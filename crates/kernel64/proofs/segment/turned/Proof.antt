@@ -1,10 +1,11 @@
 -- `kernel64::segment::turned` meets its contract: after e turns the first e lanes are taken.
 -- Assumes nothing.
-use mathlib.Core.Path.{refl, _∙_}
+use mathlib.Core.Path.{_∙_}
 use mathlib.Core.Logic.{⊎-elim}
 use Prim.Native.Nat.{_-_}
 use native.Mathlib.Omega.{arith}
 use borrow.Author.Needs.{needs}
+use borrow.Kind.Array.{eSInt, good-length}
 use lib.IntN.{pos}
 use mir.Syntax.{w64}
 use Rattle.isa.specs.Register.{pairs}
@@ -21,7 +22,7 @@ abbrev μ-loop : tie.MeasureT-loop
 μ-loop odd m r₀ e₀ r e = 2 - e
 
 loop-holds : tie.Need-loop-holds Inv-loop μ-loop
-loop-holds c = made-none refl
+loop-holds c = made-none (good-length (eSInt w64) 2 (c .args .t1) _ (c .good .0))
 
 partner-requires : tie.Need-partner-requires Inv-loop μ-loop
 partner-requires c κs = search needs
