@@ -1,5 +1,5 @@
--- One operation on the lent file. `found`: its registers by the table of their starts. `swept-worked`: an SVE2 operation.
--- `touched-worked`: one by element. `turns`: the rotations of CADD and SQCADD. `by-limit`: an index below its limit, as a loop takes it. `swept-at`,
+-- One operation on the lent file. `found`: its registers by the table of their starts. `swept-executed`: an SVE2 operation.
+-- `touched-executed`: one by element. `turns`: the rotations of CADD and SQCADD. `by-limit`: an index below its limit, as a loop takes it. `swept-at`,
 -- `touched-at`, `worked-as`: what was matched. `not-b`, `not-d`: sizes that are not handed over. Assumes nothing.
 use mathlib.Core.Path.{_≡_, refl, sym, ap, subst, _∙_}
 use Prim.Native.Nat.{ℕ, _+_, _*_, _/_, _%_, _<_, _≤_}
@@ -77,15 +77,15 @@ unfolding byteAt
 from-start L f r at e = λ t i. getD f (ap (λ x. x + i) e t) 0
 
 module _ (L : ℕ) (op : Op) (valid : Valid op) (f : List ℕ) (held : Held L f) (d n m : ℕ) (p : Placed (L / 8) op d n m) where
-  pub swept-worked : advancedSimd op ≡ false → (rule : Rule) → ((c a b : Bytes) (i : ℕ) → made op c a b i ≡ rule c a b i) → (after : List ℕ) →
+  pub swept-executed : advancedSimd op ≡ false → (rule : Rule) → ((c a b : Bytes) (i : ℕ) → made op c a b i ≡ rule c a b i) → (after : List ℕ) →
       Swept L rule f d n m after → Executed L op f after false
-  swept-worked sve rule same after s = record {
+  swept-executed sve rule same after s = record {
     left = s .left op (record { valid = valid; sve = sve; placed = p; same = same });
     flag = λ qc. flag-kept op sve (byteAt L f) qc ∙ or-false qc;
   }
 
-  pub touched-worked : advancedSimd op ≡ true → (after : List ℕ) (clamped : Bool) → Touched (made op) (clampsIn op) f d n m after clamped → Executed L op f after clamped
-  touched-worked simd after clamped t =
+  pub touched-executed : advancedSimd op ≡ true → (after : List ℕ) (clamped : Bool) → Touched (made op) (clampsIn op) f d n m after clamped → Executed L op f after clamped
+  touched-executed simd after clamped t =
       let dest : d ≡ destOf op * (L / 8) + 16 * 0 = omega (arith, p .dest) in
       let first : n ≡ firstOf op * (L / 8) + 16 * 0 = omega (arith, p .first) in
       let second : m ≡ secondOf op * (L / 8) + 16 * 0 = omega (arith, p .second) in

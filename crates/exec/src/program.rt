@@ -5,7 +5,7 @@ ghost use Prim.Native.Nat.{_/_, _<_, _≤_};
 ghost use lib.ListN.{length};
 ghost use Rattle.isa.specs.Decode.{decodeOf};
 ghost use Rattle.isa.specs.Number.{endingNumber};
-ghost use Rattle.isa.specs.Run.{start, run as runOf, outcomeOf};
+ghost use Rattle.isa.specs.Run.{start, run as definedRun, outcomeOf};
 ghost use Rattle.regfile.specs.Place.{Starts};
 ghost use Rattle.regfile.specs.Sweep.{Held};
 ghost use Rattle.exec.specs.Step.{steppedOf, fileAfter, refusalOf};
@@ -64,7 +64,7 @@ fn step_word(l: usize, file: &mut [u8], starts: &[usize; 32], state: State, word
 fn run_words(l: usize, file: &mut [u8], qc: bool, words: &[u32]) -> Ran
     requires { ⌜ Held l (now file) ⌝ }
     requires { ⌜ length (now words) ≤ 4096 ⌝ }
-    ensures { λ r. ⌜ record { answer = r; file = now (file .exit) } ≡ runOf l (now (words .entry)) (start (now (file .entry)) qc) ⌝ }
+    ensures { λ r. ⌜ record { answer = r; file = now (file .exit) } ≡ definedRun l (now (words .entry)) (start (now (file .entry)) qc) ⌝ }
 {
     let starts = starts(l >> 3);
     let mut state = State::new(qc);

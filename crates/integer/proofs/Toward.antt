@@ -54,21 +54,21 @@ module _ (n : Width) {w : Width} {x : ℤ} (f : SFits w x) {o : Bool} (e : o ≡
   tested p = sym (e ∙ ap (clamps (bits n)) (toZ-ofZ f)) ∙ p
 
   module _ {t : ℤ} (g : SFits w t) (h : Toward (bits n) x t) (p : o ≡ true) {z : ℤ} where
-    pub ended-low : ltZ (toZ w (ofZ w t)) (pos 0) ≡ true → z ≡ lowest (bits n) → z ≡ clamp (bits n) x
-    ended-low s q = q ∙ end-low h (simp (toZ-ofZ g) at s) (tested p)
+    pub clamp-toward-low : ltZ (toZ w (ofZ w t)) (pos 0) ≡ true → z ≡ lowest (bits n) → z ≡ clamp (bits n) x
+    clamp-toward-low s q = q ∙ end-low h (simp (toZ-ofZ g) at s) (tested p)
 
-    pub ended-high : ltZ (toZ w (ofZ w t)) (pos 0) ≡ false → z ≡ highest (bits n) → z ≡ clamp (bits n) x
-    ended-high s q = q ∙ end-high h (simp (toZ-ofZ g) at s) (tested p)
+    pub clamp-toward-high : ltZ (toZ w (ofZ w t)) (pos 0) ≡ false → z ≡ highest (bits n) → z ≡ clamp (bits n) x
+    clamp-toward-high s q = q ∙ end-high h (simp (toZ-ofZ g) at s) (tested p)
 
   module _ (p : o ≡ false) where
     fits-inside : SFits n x
     fits-inside = record { sfits = subst (λ (P : ℕ). mag x < P) (half n) (inside (bits n) x (tested p) .0) }
 
-    pub ended-fits : SFits n (toZ w (ofZ w x))
-    ended-fits = simp (toZ-ofZ f) fits-inside
+    pub clamp-toward-fits : SFits n (toZ w (ofZ w x))
+    clamp-toward-fits = simp (toZ-ofZ f) fits-inside
 
-    pub ended-inside : toZ n (ofZ n (toZ w (ofZ w x))) ≡ clamp (bits n) x
-    ended-inside = ap (λ (z : ℤ). toZ n (ofZ n z)) (toZ-ofZ f) ∙ toZ-ofZ fits-inside ∙ inside (bits n) x (tested p) .1
+    pub clamp-toward-inside : toZ n (ofZ n (toZ w (ofZ w x))) ≡ clamp (bits n) x
+    clamp-toward-inside = ap (λ (z : ℤ). toZ n (ofZ n z)) (toZ-ofZ f) ∙ toZ-ofZ fits-inside ∙ inside (bits n) x (tested p) .1
 
 -- ---- a sum with a number that is no larger than the range has room: the other part picks the end
 

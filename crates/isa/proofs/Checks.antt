@@ -10,12 +10,9 @@ use Rattle.isa.specs.declared.types.Op.{Op}
 use Rattle.isa.specs.declared.types.Written.{Written}
 use Rattle.isa.specs.Encode.{Checks, answer, checksOf, encodeOf}
 use Rattle.isa.specs.Number.{writtenNumber, writtenWord}
-use Rattle.isa.specs.Returned.{WriteReturns, done, no-size, no-rotation, register-limit, index-limit}
+use Rattle.isa.specs.Returned.{WriteReturns, WritesAs, done, no-size, no-rotation, register-limit, index-limit}
 
 module _ (op : Op) where
-  abbrev WritesAs : ℕ → ℕ → Type 0
-  WritesAs n w = (writtenNumber (encodeOf op) ≡ n) × (writtenWord (encodeOf op) ≡ w)
-
   returned : (s r g i : Bool) → checksOf op .size ≡ s → checksOf op .rotation ≡ r → checksOf op .registers ≡ g → checksOf op .index ≡ i →
       WriteReturns op (writtenNumber (encodeOf op)) (writtenWord (encodeOf op))
   unfolding encodeOf answer writtenNumber writtenWord
@@ -25,7 +22,7 @@ module _ (op : Op) where
   returned true true true false es er eg ei = rw (es, er, eg, ei) (index-limit es er eg ei)
   returned true true true true es er eg ei = rw (es, er, eg, ei) (done es er eg ei)
 
-  answered : {n w : ℕ} → WriteReturns op n w → WritesAs n w
+  answered : {n w : ℕ} → WriteReturns op n w → WritesAs op n w
   unfolding encodeOf answer writtenNumber writtenWord
   answered (done es er eg ei) = rw (es, er, eg, ei) (refl, refl)
   answered (no-size es) = rw es (refl, refl)
@@ -33,7 +30,7 @@ module _ (op : Op) where
   answered (register-limit es er eg) = rw (es, er, eg) (refl, refl)
   answered (index-limit es er eg ei) = rw (es, er, eg, ei) (refl, refl)
 
-  pub encode-exact : (n w : ℕ) → WritesAs n w ↔ WriteReturns op n w
+  pub encode-exact : (n w : ℕ) → WritesAs op n w ↔ WriteReturns op n w
   encode-exact n w =
       ((λ e. subst (λ x. WriteReturns op x w) (e .0) (subst (WriteReturns op _) (e .1) (returned _ _ _ _ refl refl refl refl))), answered)
 

@@ -19,7 +19,7 @@ use Rattle.isa.specs.Encode.{encodeOf}
 use Rattle.isa.specs.File.{legal, checkOf, registerCheck, registerOf}
 use Rattle.isa.specs.Run.{State, start, Outcome, run, outcomeOf}
 use Rattle.isa.specs.Number.{decodedNumber, decodedOperation, writtenNumber, writtenWord, checkedNumber, askedNumber, endingNumber, runNumber, runLeft}
-use Rattle.isa.specs.Returned.{Runs, Operations, afterWords, RunReturns, CheckReturns, RegisterReturns, WriteReturns, DecodeReturns}
+use Rattle.isa.specs.Returned.{Runs, Operations, afterWords, RunReturns, RunsAs, CheckReturns, ChecksAs, RegisterReturns, AsksAs, WriteReturns, DecodeReturns, DecodesAs}
 use Rattle.isa.proofs.Order.{refused-length, refused-size, refused-program, run-otherwise}
 use Rattle.isa.proofs.Run.{Stop, Worked, Ends, finished, run-ends, run-exact, run-prefix}
 use Rattle.isa.proofs.Checks.{passed, word-exact, encode-exact}
@@ -45,15 +45,12 @@ module _ (L size : ℕ) where
   checks (CheckReturns.bad-length el) = rw el
   checks (CheckReturns.bad-size el ne) = rw (el, ne-eqb size (4 * L) ne)
 
-  pub check-exact : (n : ℕ) → (checkedNumber (checkOf L size) ≡ n) ↔ CheckReturns L size n
+  pub check-exact : (n : ℕ) → ChecksAs L size n ↔ CheckReturns L size n
   check-exact n = ((λ e. subst (CheckReturns L size) e (checked _ _ refl refl)), checks)
 
 -- ---- asking for a register
 
 module _ (L : ℕ) (file : List ℕ) (r : ℕ) where
-  abbrev AsksAs : ℕ → List ℕ → Type 0
-  AsksAs n part = (askedNumber (registerCheck L (length file) r) ≡ n) × (registerOf L file r ≡ part)
-
   asked : (l s b : Bool) → legal L ≡ l → eqb (length file) (4 * L) ≡ s → ltb r 32 ≡ b →
       RegisterReturns L file r (askedNumber (registerCheck L (length file) r)) (registerOf L file r)
   unfolding registerOf registerCheck checkOf askedNumber
@@ -66,22 +63,19 @@ module _ (L : ℕ) (file : List ℕ) (r : ℕ) where
       let low : r ≤ 31 = omega (arith, ltb-true r 32 eb) in
       rw (el, es, eb) (RegisterReturns.found el (eqb-true (length file) (4 * L) es) low)
 
-  asks : {n : ℕ} {part : List ℕ} → RegisterReturns L file r n part → AsksAs n part
+  asks : {n : ℕ} {part : List ℕ} → RegisterReturns L file r n part → AsksAs L file r n part
   unfolding registerOf registerCheck checkOf askedNumber
   asks (RegisterReturns.found el es h) = rw (el, eq-eqb (length file) (4 * L) es, lt-ltb r 32 (omega arith)) (refl, refl)
   asks (RegisterReturns.bad-length el) = rw el (refl, refl)
   asks (RegisterReturns.bad-size el ne) = rw (el, ne-eqb (length file) (4 * L) ne) (refl, refl)
   asks (RegisterReturns.no-register el es h) = rw (el, eq-eqb (length file) (4 * L) es, le-ltb r 32 (omega arith)) (refl, refl)
 
-  pub register-exact : (n : ℕ) (part : List ℕ) → AsksAs n part ↔ RegisterReturns L file r n part
+  pub register-exact : (n : ℕ) (part : List ℕ) → AsksAs L file r n part ↔ RegisterReturns L file r n part
   register-exact n part = (moved (RegisterReturns L file r) (asked _ _ _ refl refl refl), asks)
 
 -- ---- decoding
 
 module _ (w : ℕ) where
-  abbrev DecodesAs : ℕ → List Op → Type 0
-  DecodesAs n v = (decodedNumber (decodeOf w) ≡ n) × (decodedOperation (decodeOf w) ≡ v)
-
   decoded : (d : Decoded) → decodeOf w ≡ d → DecodeReturns w (decodedNumber d) (decodedOperation d)
   unfolding decodedNumber decodedOperation writtenNumber writtenWord
   decoded (Decoded.Operation op) e =
@@ -90,7 +84,7 @@ module _ (w : ℕ) where
   decoded Decoded.Reserved e = DecodeReturns.reserved (reserved-exact w .0 e)
   decoded Decoded.Outside e = DecodeReturns.outside (outside-exact w .0 e)
 
-  decodes : {n : ℕ} {v : List Op} → DecodeReturns w n v → DecodesAs n v
+  decodes : {n : ℕ} {v : List Op} → DecodeReturns w n v → DecodesAs w n v
   unfolding decodedNumber decodedOperation
   decodes (DecodeReturns.operation op a h) =
       let e = word-exact op w .1 (passed op 0 w h refl) in
@@ -98,15 +92,12 @@ module _ (w : ℕ) where
   decodes (DecodeReturns.outside h) = rw (outside-exact w .1 h) (refl, refl)
   decodes (DecodeReturns.reserved h) = rw (reserved-exact w .1 h) (refl, refl)
 
-  pub decode-exact : (n : ℕ) (v : List Op) → DecodesAs n v ↔ DecodeReturns w n v
+  pub decode-exact : (n : ℕ) (v : List Op) → DecodesAs w n v ↔ DecodeReturns w n v
   decode-exact n v = (moved (DecodeReturns w) (decoded _ refl), decodes)
 
 -- ---- a run
 
 module _ (L : ℕ) (file : List ℕ) (qc : Bool) (words : List ℕ) where
-  abbrev RunsAs : ℕ → State → Type 0
-  RunsAs n s = (runNumber (outcomeOf L file qc words) ≡ n) × (runLeft (outcomeOf L file qc words) ≡ s)
-
   abbrev ran : Outcome
   ran = run L words (start file qc)
 
@@ -145,13 +136,13 @@ module _ (L : ℕ) (file : List ℕ) (qc : Bool) (words : List ℕ) where
       rw (run-otherwise L file qc words el size short, left) (returned (record { ok = el; sized = size; short = short }) (r .0) (r .1))
 
   -- the run ends so after k words
-  runs-as : {k : ℕ} {e : Ending} → Runs L file words → Operations words k → Ends words k e → RunsAs (endingNumber e) (afterWords L file qc words k)
+  runs-as : {k : ℕ} {e : Ending} → Runs L file words → Operations words k → Ends words k e → RunsAs L file qc words (endingNumber e) (afterWords L file qc words k)
   runs-as {k} {e} r h ends =
       let exact = run-exact L words (start file qc) k e (worked k h) ends in
       let count : ran .answer .done ≡ k = omega (arith, exact .0) in
       rw (run-otherwise L file qc words (r .ok) (r .sized) (r .short)) (ap endingNumber (exact .1), left ∙ ap (afterWords L file qc words) count)
 
-  runs : {n : ℕ} {s : State} → RunReturns L file qc words n s → RunsAs n s
+  runs : {n : ℕ} {s : State} → RunReturns L file qc words n s → RunsAs L file qc words n s
   unfolding endingNumber
   runs (RunReturns.done r h) = runs-as r h (Ends.all refl)
   runs (RunReturns.bad-length el) = rw (refused-length L file qc words el) (refl, refl)
@@ -160,5 +151,5 @@ module _ (L : ℕ) (file : List ℕ) (qc : Bool) (words : List ℕ) where
   runs (RunReturns.outside k r h l e) = runs-as r h (Ends.stop Stop.outside l (outside-exact (getD words k 0) .1 e))
   runs (RunReturns.reserved k r h l e) = runs-as r h (Ends.stop Stop.reserved l (reserved-exact (getD words k 0) .1 e))
 
-  pub call-exact : (n : ℕ) (s : State) → RunsAs n s ↔ RunReturns L file qc words n s
+  pub call-exact : (n : ℕ) (s : State) → RunsAs L file qc words n s ↔ RunReturns L file qc words n s
   call-exact n s = (moved (RunReturns L file qc words) (called _ _ _ refl refl refl), runs)

@@ -25,7 +25,7 @@ byteAt L file r j = getD file (r * (L / 8) + j) 0
 unfoldable pub fileOf : ℕ → Regs → List ℕ
 fileOf L regs = tabulate (4 * L) (λ i. regs (i / (L / 8)) (i % (L / 8)))
 
--- ---- one register's part
+-- ---- the checks before a file is used, and one register's part
 
 abbrev pub pickChecked : Bool → Checked → Checked → Checked
 pickChecked true a b = a

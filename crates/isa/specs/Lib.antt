@@ -1,4 +1,4 @@
--- What a reader has to believe, in the order of document 01.
+-- What a reader has to believe of this crate, in the order of document 01.
 -- words: the form of a row, the table, which words are operations, decoding, writing
 pub mod Field
 pub mod Table
@@ -15,7 +15,7 @@ pub mod Number
 pub mod Returned
 pub mod Claim
 pub mod Cases
--- Inner: what the code's functions say to each other. No claim rests on these, since the contract of every entry point is stated by the modules above.
+-- Inner: what the code's functions say to each other. No claim rests on these: no contract of an entry point cites them.
 pub mod Valid
 pub mod Segment
 pub mod Stage

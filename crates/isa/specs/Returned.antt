@@ -1,15 +1,17 @@
 -- Document 01, 'Numbers returned': when each number is given, and what is returned and left beside it. A line holds where its own condition
--- does and no earlier check applies. That the definitions answer exactly so: `call-exact`, `check-exact`, `register-exact`, `decode-exact`,
--- `encode-exact` of proofs/Returned.antt.
+-- does and no earlier check applies. What a definition answers, as numbers and values, is `RunsAs` and its like; the theorems say that it is one
+-- exactly where the line is: `call-exact`, `check-exact`, `register-exact`, `decode-exact` (proofs/Returned.antt), `encode-exact` (proofs/Checks.antt).
 use mathlib.Core.Path.{_≡_}
 use Prim.Native.Nat.{ℕ, _*_, _/_, _<_, _≤_}
 use mathlib.Core.Bool.{Bool, true, false}
 use mathlib.Core.List.{List, [], _∷_}
 use lib.ListN.{length, getD, take, drop}
 use Rattle.isa.specs.Allowed.{AllowedWord, ReservedWord, OutsideWord}
-use Rattle.isa.specs.Encode.{checksOf}
-use Rattle.isa.specs.File.{legal}
-use Rattle.isa.specs.Run.{State, start, run}
+use Rattle.isa.specs.Decode.{decodeOf}
+use Rattle.isa.specs.Encode.{checksOf, encodeOf}
+use Rattle.isa.specs.File.{legal, checkOf, registerCheck, registerOf}
+use Rattle.isa.specs.Run.{State, start, run, outcomeOf}
+use Rattle.isa.specs.Number.{decodedNumber, decodedOperation, writtenNumber, writtenWord, checkedNumber, askedNumber, runNumber, runLeft}
 use Rattle.isa.specs.declared.types.Op.{Op}
 
 -- ---- executing: 1, 2, 3, then word by word 4 or 5
@@ -43,12 +45,18 @@ pub data RunReturns (L : ℕ) (file : List ℕ) (qc : Bool) (words : List ℕ) :
   reserved : (k : ℕ) → Runs L file words → Operations words k → k < length words → ReservedWord (getD words k 0) →
       RunReturns L file qc words 5 (afterWords L file qc words k)
 
+abbrev pub RunsAs : ℕ → List ℕ → Bool → List ℕ → ℕ → State → Type 0
+RunsAs L file qc words n s = (runNumber (outcomeOf L file qc words) ≡ n) × (runLeft (outcomeOf L file qc words) ≡ s)
+
 -- ---- a length and a size alone: 1, 2
 
 pub data CheckReturns (L size : ℕ) : ℕ → Type 0 where
   passed : legal L ≡ true → size ≡ 4 * L → CheckReturns L size 0
   bad-length : legal L ≡ false → CheckReturns L size 1
   bad-size : legal L ≡ true → (size ≡ 4 * L → ⊥) → CheckReturns L size 2
+
+abbrev pub ChecksAs : ℕ → ℕ → ℕ → Type 0
+ChecksAs L size n = checkedNumber (checkOf L size) ≡ n
 
 -- ---- asking for a register: 1, 2, 6; the number, and the part handed out
 
@@ -57,6 +65,9 @@ pub data RegisterReturns (L : ℕ) (file : List ℕ) (r : ℕ) : ℕ → List �
   bad-length : legal L ≡ false → RegisterReturns L file r 1 []
   bad-size : legal L ≡ true → (length file ≡ 4 * L → ⊥) → RegisterReturns L file r 2 []
   no-register : legal L ≡ true → length file ≡ 4 * L → 31 < r → RegisterReturns L file r 6 []
+
+abbrev pub AsksAs : ℕ → List ℕ → ℕ → ℕ → List ℕ → Type 0
+AsksAs L file r n part = (askedNumber (registerCheck L (length file) r) ≡ n) × (registerOf L file r ≡ part)
 
 -- ---- writing: 7, 8, 9, 10; the number, and the word
 
@@ -69,9 +80,15 @@ pub data WriteReturns (op : Op) : ℕ → ℕ → Type 0 where
   index-limit : checksOf op .size ≡ true → checksOf op .rotation ≡ true → checksOf op .registers ≡ true → checksOf op .index ≡ false →
       WriteReturns op 10 0
 
+abbrev pub WritesAs : Op → ℕ → ℕ → Type 0
+WritesAs op n w = (writtenNumber (encodeOf op) ≡ n) × (writtenWord (encodeOf op) ≡ w)
+
 -- ---- decoding: the number, and the operation, which is the one that is written as the word
 
 pub data DecodeReturns (w : ℕ) : ℕ → List Op → Type 0 where
   operation : (op : Op) → AllowedWord w → WriteReturns op 0 w → DecodeReturns w 0 (op ∷ [])
   outside : OutsideWord w → DecodeReturns w 4 []
   reserved : ReservedWord w → DecodeReturns w 5 []
+
+abbrev pub DecodesAs : ℕ → ℕ → List Op → Type 0
+DecodesAs w n v = (decodedNumber (decodeOf w) ≡ n) × (decodedOperation (decodeOf w) ≡ v)

@@ -54,10 +54,10 @@ pub fn doubled(n: [i16; 8], odd: bool) -> [i16; 8]
 }
 
 // Each lane stays, or takes the other part of its pair.
-pub fn turned(m: [i16; 8], odd: bool) -> [i16; 8]
+pub fn swapped(m: [i16; 8], odd: bool) -> [i16; 8]
     ensures { λ r. ⌜ Taken Size.H r m (secondPlace odd) ⌝ }
 {
-    let mut r = m;
+    let mut r = [0i16; 8];
     for e in 0..8 {
         r[e] = if odd { m[partner(e)] } else { m[e] };
     }
@@ -113,7 +113,7 @@ pub fn adds(x: [i16; 8], z: [i16; 8], real: bool, imaginary: bool) -> [i16; 8]
 pub fn sats(x: [i16; 8], z: [i16; 8], real: bool, imaginary: bool) -> [i16; 8]
     ensures { λ r. ⌜ Added Size.H (clamped 16) r x z real imaginary ⌝ }
 {
-    let mut r = [0i16; 8];
+    let mut r = z;
     for e in 0..8 {
         r[e] = sat(x[e], z[e], minus_at(real, imaginary, e));
     }

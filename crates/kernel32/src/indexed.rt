@@ -12,7 +12,7 @@ use crate::segment::lanes;
 use crate::segment::mlas;
 use crate::segment::repeated;
 use crate::segment::rounds;
-use crate::segment::turned;
+use crate::segment::swapped;
 use common::rotation::crosses;
 use common::rotation::minus_imaginary;
 use common::rotation::minus_real;
@@ -26,7 +26,7 @@ pub fn cmla_straight(c: [u8; 16], n: [u8; 16], m: [u8; 16], index: usize, rot: R
 {
     let x = lanes(c);
     let y = doubled(lanes(n), false);
-    let z = turned(repeated(lanes(m), index), false);
+    let z = swapped(repeated(lanes(m), index), false);
     bytes(mlas(x, y, z, minus_real(rot), minus_imaginary(rot)))
 }
 
@@ -37,7 +37,7 @@ pub fn cmla_crossed(c: [u8; 16], n: [u8; 16], m: [u8; 16], index: usize, rot: Ro
 {
     let x = lanes(c);
     let y = doubled(lanes(n), true);
-    let z = turned(repeated(lanes(m), index), true);
+    let z = swapped(repeated(lanes(m), index), true);
     bytes(mlas(x, y, z, minus_real(rot), minus_imaginary(rot)))
 }
 
@@ -65,7 +65,7 @@ pub fn sqrdcmlah_straight(
 {
     let x = lanes(c);
     let y = doubled(lanes(n), false);
-    let z = turned(repeated(lanes(m), index), false);
+    let z = swapped(repeated(lanes(m), index), false);
     bytes(rounds(x, y, z, minus_real(rot), minus_imaginary(rot)))
 }
 
@@ -82,7 +82,7 @@ pub fn sqrdcmlah_crossed(
 {
     let x = lanes(c);
     let y = doubled(lanes(n), true);
-    let z = turned(repeated(lanes(m), index), true);
+    let z = swapped(repeated(lanes(m), index), true);
     bytes(rounds(x, y, z, minus_real(rot), minus_imaginary(rot)))
 }
 

@@ -33,7 +33,7 @@ pub fn outside(x: i64) -> bool
 
 // x brought into 32 bits, to the end that the sign of `toward` tells. Callers pass a number that they work out anyway,
 // and the compiler makes no branch of this clamp, which data would mispredict.
-fn ended(x: i64, toward: i64) -> i32
+fn clamp_toward(x: i64, toward: i64) -> i32
     requires { ⌜ Toward 32 x toward ⌝ }
     ensures { λ r. ⌜ r ≡ clamp 32 x ⌝ }
 {
@@ -75,7 +75,7 @@ pub fn round(c: i32, a: i32, b: i32, minus: bool) -> i32
     ensures { λ r. ⌜ r ≡ saturated 32 c (signedBy minus (a *ℤ b)) ⌝ }
 {
     let t = upper(a, b, minus);
-    ended((c as i64) + t, t)
+    clamp_toward((c as i64) + t, t)
 }
 
 // c plus or minus the product of a and b, modulo 2^32.
@@ -96,5 +96,5 @@ pub fn add(c: i32, b: i32, minus: bool) -> i32
 pub fn sat(c: i32, b: i32, minus: bool) -> i32
     ensures { λ r. ⌜ r ≡ clamped 32 c (signedBy minus b) ⌝ }
 {
-    ended(plus_minus(c as i64, b as i64, minus), c as i64)
+    clamp_toward(plus_minus(c as i64, b as i64, minus), c as i64)
 }

@@ -58,10 +58,10 @@ pub fn doubled(n: [i32; 4], odd: bool) -> [i32; 4]
 }
 
 // Each lane stays, or takes the other part of its pair.
-pub fn turned(m: [i32; 4], odd: bool) -> [i32; 4]
+pub fn swapped(m: [i32; 4], odd: bool) -> [i32; 4]
     ensures { λ r. ⌜ Taken Size.S r m (secondPlace odd) ⌝ }
 {
-    let mut r = m;
+    let mut r = [0i32; 4];
     for e in 0..4 {
         r[e] = if odd { m[partner(e)] } else { m[e] };
     }
@@ -117,7 +117,7 @@ pub fn adds(x: [i32; 4], z: [i32; 4], real: bool, imaginary: bool) -> [i32; 4]
 pub fn sats(x: [i32; 4], z: [i32; 4], real: bool, imaginary: bool) -> [i32; 4]
     ensures { λ r. ⌜ Added Size.S (clamped 32) r x z real imaginary ⌝ }
 {
-    let mut r = [0i32; 4];
+    let mut r = z;
     for e in 0..4 {
         r[e] = sat(x[e], z[e], minus_at(real, imaginary, e));
     }

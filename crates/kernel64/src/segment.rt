@@ -53,10 +53,10 @@ pub fn doubled(n: [i64; 2], odd: bool) -> [i64; 2]
 }
 
 // Each lane stays, or takes the other part of its pair.
-pub fn turned(m: [i64; 2], odd: bool) -> [i64; 2]
+pub fn swapped(m: [i64; 2], odd: bool) -> [i64; 2]
     ensures { λ r. ⌜ Taken Size.D r m (secondPlace odd) ⌝ }
 {
-    let mut r = m;
+    let mut r = [0i64; 2];
     for e in 0..2 {
         r[e] = if odd { m[partner(e)] } else { m[e] };
     }
@@ -100,7 +100,7 @@ pub fn adds(x: [i64; 2], z: [i64; 2], real: bool, imaginary: bool) -> [i64; 2]
 pub fn sats(x: [i64; 2], z: [i64; 2], real: bool, imaginary: bool) -> [i64; 2]
     ensures { λ r. ⌜ Added Size.D (clamped 64) r x z real imaginary ⌝ }
 {
-    let mut r = [0i64; 2];
+    let mut r = z;
     for e in 0..2 {
         r[e] = sat(x[e], z[e], minus_at(real, imaginary, e));
     }

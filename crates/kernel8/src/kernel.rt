@@ -14,7 +14,7 @@ use crate::segment::lanes;
 use crate::segment::mlas;
 use crate::segment::rounds;
 use crate::segment::sats;
-use crate::segment::turned;
+use crate::segment::swapped;
 use common::rotation::crosses;
 use common::rotation::minus_imaginary;
 use common::rotation::minus_real;
@@ -27,7 +27,7 @@ pub fn cadd(c: [u8; 16], m: [u8; 16], rot: Rotation) -> [u8; 16]
     ensures { λ r. ⌜ Segment Size.B own (caddOf rot) r c c m ⌝ }
 {
     let x = lanes(c);
-    let z = turned(lanes(m), true);
+    let z = swapped(lanes(m), true);
     bytes(adds(x, z, minus_real(rot), minus_imaginary(rot)))
 }
 
@@ -37,7 +37,7 @@ pub fn sqcadd(c: [u8; 16], m: [u8; 16], rot: Rotation) -> [u8; 16]
     ensures { λ r. ⌜ Segment Size.B own (sqcaddOf 8 rot) r c c m ⌝ }
 {
     let x = lanes(c);
-    let z = turned(lanes(m), true);
+    let z = swapped(lanes(m), true);
     bytes(sats(x, z, minus_real(rot), minus_imaginary(rot)))
 }
 
@@ -48,7 +48,7 @@ pub fn cmla_straight(c: [u8; 16], n: [u8; 16], m: [u8; 16], rot: Rotation) -> [u
 {
     let x = lanes(c);
     let y = doubled(lanes(n), false);
-    let z = turned(lanes(m), false);
+    let z = swapped(lanes(m), false);
     bytes(mlas(x, y, z, minus_real(rot), minus_imaginary(rot)))
 }
 
@@ -59,7 +59,7 @@ pub fn cmla_crossed(c: [u8; 16], n: [u8; 16], m: [u8; 16], rot: Rotation) -> [u8
 {
     let x = lanes(c);
     let y = doubled(lanes(n), true);
-    let z = turned(lanes(m), true);
+    let z = swapped(lanes(m), true);
     bytes(mlas(x, y, z, minus_real(rot), minus_imaginary(rot)))
 }
 
@@ -81,7 +81,7 @@ pub fn sqrdcmlah_straight(c: [u8; 16], n: [u8; 16], m: [u8; 16], rot: Rotation) 
 {
     let x = lanes(c);
     let y = doubled(lanes(n), false);
-    let z = turned(lanes(m), false);
+    let z = swapped(lanes(m), false);
     bytes(rounds(x, y, z, minus_real(rot), minus_imaginary(rot)))
 }
 
@@ -92,7 +92,7 @@ pub fn sqrdcmlah_crossed(c: [u8; 16], n: [u8; 16], m: [u8; 16], rot: Rotation) -
 {
     let x = lanes(c);
     let y = doubled(lanes(n), true);
-    let z = turned(lanes(m), true);
+    let z = swapped(lanes(m), true);
     bytes(rounds(x, y, z, minus_real(rot), minus_imaginary(rot)))
 }
 

@@ -45,10 +45,10 @@ pub fn doubled(n: [i8; 16], odd: bool) -> [i8; 16]
 }
 
 // Each lane stays, or takes the other part of its pair.
-pub fn turned(m: [i8; 16], odd: bool) -> [i8; 16]
+pub fn swapped(m: [i8; 16], odd: bool) -> [i8; 16]
     ensures { λ r. ⌜ Taken Size.B r m (secondPlace odd) ⌝ }
 {
-    let mut r = m;
+    let mut r = [0i8; 16];
     for e in 0..16 {
         r[e] = if odd { m[partner(e)] } else { m[e] };
     }
@@ -92,7 +92,7 @@ pub fn adds(x: [i8; 16], z: [i8; 16], real: bool, imaginary: bool) -> [i8; 16]
 pub fn sats(x: [i8; 16], z: [i8; 16], real: bool, imaginary: bool) -> [i8; 16]
     ensures { λ r. ⌜ Added Size.B (clamped 8) r x z real imaginary ⌝ }
 {
-    let mut r = [0i8; 16];
+    let mut r = z;
     for e in 0..16 {
         r[e] = sat(x[e], z[e], minus_at(real, imaginary, e));
     }

@@ -10,7 +10,7 @@ use lib.Dec.{lit≤}
 use lib.ListN.{length, length-append}
 use Rattle.listing.specs.Listing.{ascii, hexDigit, digitsOf, decimalOf, countLine, tailLine, limit}
 use Rattle.listing.specs.Call.{Wrote}
-use Rattle.listing.proofs.Placed.{wrote-then}
+use Rattle.listing.proofs.WithText.{wrote-then}
 
 digits-one : (most n : ℕ) → n < 10 → digitsOf (suc most) n ≡ hexDigit n ∷ []
 unfolding digitsOf

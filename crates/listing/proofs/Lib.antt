@@ -1,4 +1,4 @@
-pub mod Placed
+pub mod WithText
 pub mod Tests
 pub mod Words
 pub mod Lines

@@ -12,7 +12,7 @@ use Rattle.isa.specs.declared.types.Op.{Op}
 use Rattle.isa.specs.declared.types.Decoded.{Decoded}
 use Rattle.listing.specs.Listing.{ascii, operationName, nameOf, hexOf, lineOf, linesOf, wordsOf}
 use Rattle.listing.specs.Call.{Wrote, wordAt}
-use Rattle.listing.proofs.Placed.{wrote-none, wrote-then}
+use Rattle.listing.proofs.WithText.{wrote-none, wrote-then}
 use Rattle.listing.proofs.Words.{words-length, words-at}
 
 operation-short : (op : Op) → length (ascii (operationName op)) ≤ 11

@@ -12,11 +12,11 @@ use lib.Dec.{leb, ltb}
 use lib.ListN.{length, take, drop, length-append, take-append-drop}
 use lib.Seq.{take-all}
 use Rattle.listing.specs.Listing.{PieceText, ascii, linesOf, wordsOf, tailOf, tailLine, totalLine, countLine, limitLine, limit, overOf, lastOf, moreOf, partOf}
-use Rattle.listing.specs.Call.{Wrote, PartOutcome, roomFor, textOutcome, outcomeOfPart, ListReturns}
+use Rattle.listing.specs.Call.{Wrote, PartOutcome, roomFor, textOutcome, outcomeOfPart, ListReturns, ListsAs}
 use Rattle.isa.specs.Number.{listedNumber, listedPart}
 use Rattle.isa.specs.declared.types.ListedPart.{ListedPart}
 use Rattle.isa.specs.declared.types.Listed.{Listed}
-use Rattle.listing.proofs.Placed.{placed-start, wrote-then}
+use Rattle.listing.proofs.WithText.{with-start, wrote-then}
 use Rattle.listing.proofs.Words.{words-length}
 use Rattle.listing.proofs.Lines.{lines-short}
 use Rattle.listing.proofs.Decimal.{count-short, tail-short}
@@ -26,7 +26,7 @@ text-outcome : {out : List ℕ} {r : ℕ} {out₁ : List ℕ} (a : PieceText) �
     → record { answer = Listed.Text (record { length = r; done = a .done; ended = a .ended }); out = out₁ } ≡ textOutcome a out
 text-outcome {out} {r} {out₁} a w =
     let p : r ≡ length (a .text) = w .past ∙ zero-add (length (a .text)) in
-    let q : out₁ ≡ a .text ++ drop (length (a .text)) out = w .held ∙ placed-start out (a .text) in
+    let q : out₁ ≡ a .text ++ drop (length (a .text)) out = w .held ∙ with-start out (a .text) in
     rw (p, q)
 
 take-below : (n : ℕ) (s : List ℕ) → length (take n s) ≤ length s
@@ -99,31 +99,26 @@ call-more done bytes last out e h l = rw (call-text done bytes last out e, words
 -- ---- when each number is given
 
 module _ (done : ℕ) (bytes : List ℕ) (last : Bool) (out : List ℕ) where
-  abbrev ListsAs : ℕ → List ListedPart → List ℕ → Type 0
-  ListsAs n part left =
-      let o = outcomeOfPart done bytes last out in
-      (listedNumber (o .answer) ≡ n) × ((listedPart (o .answer) ≡ part) × (o .out ≡ left))
-
-  lists : {n : ℕ} {part : List ListedPart} {left : List ℕ} → ListReturns done bytes last out n part left → ListsAs n part left
+  lists : {n : ℕ} {part : List ListedPart} {left : List ℕ} → ListReturns done bytes last out n part left → ListsAs done bytes last out n part left
   unfolding listedNumber listedPart
   lists (ListReturns.listed h) = rw (call-text done bytes last out (le-leb (roomFor bytes) (length out) h)) (refl, (refl, refl))
   lists (ListReturns.no-room h) = rw (sym (call-room done bytes last out (lt-leb (roomFor bytes) (length out) h))) (refl, (refl, refl))
 
   -- what is returned is one of the lines, and the lines tell everything, so it is that one
-  the-same : {n m : ℕ} {part q : List ListedPart} {left after : List ℕ} → ListReturns done bytes last out n part left → ListsAs n part left → ListsAs m q after →
+  the-same : {n m : ℕ} {part q : List ListedPart} {left after : List ℕ} → ListReturns done bytes last out n part left → ListsAs done bytes last out n part left → ListsAs done bytes last out m q after →
       ListReturns done bytes last out m q after
   the-same {n} {m} {part} {q} {left} {after} r a b =
       subst (λ k. ListReturns done bytes last out k q after) (sym (a .0) ∙ b .0)
       (subst (λ p. ListReturns done bytes last out n p after) (sym (a .1 .0) ∙ b .1 .0)
       (subst (ListReturns done bytes last out n part) (sym (a .1 .1) ∙ b .1 .1) r))
 
-  returned : {n : ℕ} {part : List ListedPart} {left : List ℕ} → Dec (roomFor bytes ≤ length out) → ListsAs n part left → ListReturns done bytes last out n part left
+  returned : {n : ℕ} {part : List ListedPart} {left : List ℕ} → Dec (roomFor bytes ≤ length out) → ListsAs done bytes last out n part left → ListReturns done bytes last out n part left
   returned (yes h) a = the-same (ListReturns.listed h) (lists (ListReturns.listed h)) a
   returned (no h) a =
       let short : length out < roomFor bytes = omega arith in
       the-same (ListReturns.no-room short) (lists (ListReturns.no-room short)) a
 
-  pub list-exact : (n : ℕ) (part : List ListedPart) (left : List ℕ) → ListsAs n part left ↔ ListReturns done bytes last out n part left
+  pub list-exact : (n : ℕ) (part : List ListedPart) (left : List ℕ) → ListsAs done bytes last out n part left ↔ ListReturns done bytes last out n part left
   list-exact n part left = (returned (decLe (roomFor bytes) (length out)), lists)
 
 -- for a caller: a text that was answered lies within the buffer

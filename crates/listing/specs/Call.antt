@@ -6,6 +6,7 @@ use mathlib.Core.List.{List, [], _∷_, _++_}
 use lib.Dec.{ltb}
 use lib.ListN.{length, getD, take, drop}
 use Rattle.listing.specs.Listing.{PieceText, ascii, wordOf, partOf}
+use Rattle.isa.specs.Number.{listedNumber, listedPart}
 use Rattle.isa.specs.declared.types.ListedPart.{ListedPart}
 use Rattle.isa.specs.declared.types.Listed.{Listed}
 
@@ -68,7 +69,12 @@ outcomeOfPart done bytes last out =
     (record { answer = Listed.Room; out = out })
     (textOutcome (partOf done bytes last) out)
 
--- when each number is given, with what is answered beside it and what the buffer then holds: `list-exact` of proofs/Parts.antt
+-- when each number is given, with what is answered beside it and what the buffer then holds; that the definition answers exactly so is `list-exact` (proofs/Parts.antt)
 pub data ListReturns (done : ℕ) (bytes : List ℕ) (last : Bool) (out : List ℕ) : ℕ → List ListedPart → List ℕ → Type 0 where
   listed : roomFor bytes ≤ length out → ListReturns done bytes last out 0 (partAnswered (partOf done bytes last) ∷ []) (textLeft (partOf done bytes last) out)
   no-room : length out < roomFor bytes → ListReturns done bytes last out 13 [] out
+
+abbrev pub ListsAs : ℕ → List ℕ → Bool → List ℕ → ℕ → List ListedPart → List ℕ → Type 0
+ListsAs done bytes last out n part left =
+    (listedNumber (outcomeOfPart done bytes last out .answer) ≡ n)
+    × ((listedPart (outcomeOfPart done bytes last out .answer) ≡ part) × (outcomeOfPart done bytes last out .out ≡ left))

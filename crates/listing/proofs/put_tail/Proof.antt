@@ -1,4 +1,4 @@
-use Rattle.listing.proofs.Placed.{wrote-none}
+use Rattle.listing.proofs.WithText.{wrote-none}
 use Rattle.listing.proofs.Decimal.{tail-line}
 use borrow.Author.Needs.{needs}
 use Rattle.listing.proofs.put_tail.Statement.{statement}

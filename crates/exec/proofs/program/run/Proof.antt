@@ -2,6 +2,7 @@
 -- Assumes nothing.
 use borrow.Author.Needs.{needs}
 use mathlib.Core.Path.{sym, _∙_}
+use native.Mathlib.Omega.{arith}
 use lib.ListN.{length}
 use Rattle.isa.specs.declared.types.Checked.{Checked}
 use Rattle.isa.proofs.FileChecks.{passed-exact}
@@ -25,7 +26,7 @@ returns c =
     let k = t .before .before in
     let a = k .before .before .before .args in
     (λ t. record { answer = c .refused .ensures t; file = a .file .now })
-    ∙ outcome-long (a .l) (a .file .now) (a .qc) (a .words .now) (sym (k .check-size .ensures) ∙ t .enum-told .given .1) (i .if1 .taken)
+    ∙ outcome-long (a .l) (a .file .now) (a .qc) (a .words .now) (sym (k .check-size .ensures) ∙ t .enum-told .given .1) (omega (arith, i .if1 .taken))
 
 run-words-requires : tie.Need-run-words-requires
 run-words-requires c κs =

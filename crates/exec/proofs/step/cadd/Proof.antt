@@ -7,7 +7,7 @@ use lib.ListN.{getD}
 use Rattle.isa.specs.declared.types.Op.{Op}
 use Rattle.isa.specs.Meaning.{advancedSimd}
 use Rattle.isa.specs.Sources.{addRule, destOf, firstOf, secondOf, made}
-use Rattle.exec.proofs.Operation.{Found, found, swept-worked, turns}
+use Rattle.exec.proofs.Operation.{Found, found, swept-executed, turns}
 use Rattle.exec.proofs.step.cadd.Statement.{statement}
 use Rattle.exec.proofs.step.cadd.Tie as tie
 
@@ -57,7 +57,7 @@ returns c =
     let q = k .before .before in
     let s = q .before .before .before .before .before in
     let a = s .args in
-    swept-worked (a .l) (Op.Cadd (a .a)) (s .pre .1 .1) (a .file .now) (s .pre .0) _ _ _ (there q .placed) refl (addRule false (a .a .size) (a .a .rot)) (λ c a b i. refl) _ (k .sums .ensures)
+    swept-executed (a .l) (Op.Cadd (a .a)) (s .pre .1 .1) (a .file .now) (s .pre .0) _ _ _ (there q .placed) refl (addRule false (a .a .size) (a .a .rot)) (λ c a b i. refl) _ (k .sums .ensures)
 
 pub cadd-spec : {M : Type 1} → statement M
 cadd-spec =

@@ -7,7 +7,7 @@ use lib.ListN.{getD}
 use Rattle.isa.specs.declared.types.Op.{Op}
 use Rattle.isa.specs.Meaning.{advancedSimd}
 use Rattle.isa.specs.Sources.{mulRule, destOf, firstOf, secondOf, made}
-use Rattle.exec.proofs.Operation.{Found, found, swept-worked}
+use Rattle.exec.proofs.Operation.{Found, found, swept-executed}
 use Rattle.exec.proofs.step.cmla.Statement.{statement}
 use Rattle.exec.proofs.step.cmla.Tie as tie
 
@@ -68,7 +68,7 @@ returns c =
     let q = k .before .before in
     let s = q .before .before .before .before .before .before .before in
     let a = s .args in
-    swept-worked (a .l) (Op.Cmla (a .a)) (s .pre .1 .1) (a .file .now) (s .pre .0) _ _ _ (there q .placed) refl (mulRule false (a .a .size) (a .a .rot)) (λ c a b i. refl) _ (k .products .ensures)
+    swept-executed (a .l) (Op.Cmla (a .a)) (s .pre .1 .1) (a .file .now) (s .pre .0) _ _ _ (there q .placed) refl (mulRule false (a .a .size) (a .a .rot)) (λ c a b i. refl) _ (k .products .ensures)
 
 pub cmla-spec : {M : Type 1} → statement M
 cmla-spec =

@@ -9,7 +9,7 @@ use Rattle.isa.specs.declared.types.Size.the-variants.{H, S}
 use Rattle.isa.specs.Meaning.{advancedSimd, subtracts}
 use Rattle.isa.specs.Encode.{bySize}
 use Rattle.isa.specs.Sources.{destOf, firstOf, secondOf, made, clampsIn}
-use Rattle.exec.proofs.Operation.{Found, found, touched-at, touched-worked, not-b, not-d}
+use Rattle.exec.proofs.Operation.{Found, found, touched-at, touched-executed, not-b, not-d}
 use Rattle.exec.proofs.step.sqrdmlsh.Statement.{statement}
 use Rattle.exec.proofs.step.sqrdmlsh.Tie as tie
 
@@ -94,7 +94,7 @@ returns-2 c =
     let s = q .before .before .before .before .before .before .before in
     let a = s .args in
     let size = t .enum-told2 .given .1 in
-    touched-worked (a .l) (Op.Sqrdmlsh (a .a)) (s .pre .1 .1) (a .file .now) (s .pre .0) _ _ _ (there q .placed) refl _ _
+    touched-executed (a .l) (Op.Sqrdmlsh (a .a)) (s .pre .1 .1) (a .file .now) (s .pre .0) _ _ _ (there q .placed) refl _ _
     (touched-at (a .a) subtracts H 8 (w .wide4 .result) (a .file .now) _ _ _ _ _ size (subst (λ z. a .a .index < bySize 8 4 z) size (s .pre .1 .1 .index)) (w .wide4 .ensures) (k .elements .ensures))
 
 same-length-2 : tie.Need-same-length-2
@@ -110,7 +110,7 @@ returns-3 c =
     let s = q .before .before .before .before .before .before .before in
     let a = s .args in
     let size = t .enum-told3 .given .1 in
-    touched-worked (a .l) (Op.Sqrdmlsh (a .a)) (s .pre .1 .1) (a .file .now) (s .pre .0) _ _ _ (there q .placed) refl _ _
+    touched-executed (a .l) (Op.Sqrdmlsh (a .a)) (s .pre .1 .1) (a .file .now) (s .pre .0) _ _ _ (there q .placed) refl _ _
     (touched-at (a .a) subtracts S 4 (w .wide4 .result) (a .file .now) _ _ _ _ _ size (subst (λ z. a .a .index < bySize 8 4 z) size (s .pre .1 .1 .index)) (w .wide4 .ensures) (k .elements2 .ensures))
 
 returns-4 : tie.Need-returns-4

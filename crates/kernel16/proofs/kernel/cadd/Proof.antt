@@ -16,8 +16,8 @@ lanes-requires c κs = search needs
 lanes-requires-2 : tie.Need-lanes-requires-2
 lanes-requires-2 c κs = search needs
 
-turned-requires : tie.Need-turned-requires
-turned-requires c κs = search needs
+swapped-requires : tie.Need-swapped-requires
+swapped-requires c κs = search needs
 
 minus-real-requires : tie.Need-minus-real-requires
 minus-real-requires c κs = search needs
@@ -40,7 +40,7 @@ returns c =
     let m = t .before in
     let x = m .before in
     sums H (λ v. v) (wrapped 16) (pattern-wrapped 16) (x .before .args .rot) (x .before .pre) (k .minus-real .ensures) (i .minus-imaginary .ensures)
-    (x .lanes .ensures) (m .lanes2 .ensures) (t .turned .ensures) (c .before .adds .ensures) (c .bytes .ensures)
+    (x .lanes .ensures) (m .lanes2 .ensures) (t .swapped .ensures) (c .before .adds .ensures) (c .bytes .ensures)
 
 pub cadd-spec : {M : Type 1} → statement M
 cadd-spec =
@@ -48,7 +48,7 @@ cadd-spec =
     (tie.spec
     lanes-requires
     lanes-requires-2
-    turned-requires
+    swapped-requires
     minus-real-requires
     minus-imaginary-requires
     adds-requires

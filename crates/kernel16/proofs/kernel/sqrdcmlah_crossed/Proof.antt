@@ -21,8 +21,8 @@ doubled-requires c κs = search needs
 lanes-requires-3 : tie.Need-lanes-requires-3
 lanes-requires-3 c κs = search needs
 
-turned-requires : tie.Need-turned-requires
-turned-requires c κs = search needs
+swapped-requires : tie.Need-swapped-requires
+swapped-requires c κs = search needs
 
 minus-real-requires : tie.Need-minus-real-requires
 minus-real-requires c κs = search needs
@@ -47,7 +47,7 @@ returns c =
     let n = y .before in
     let x = n .before in
     products H own (saturated 16) (saturated 16) (λ a b. refl) (x .before .args .rot) (sym (x .before .pre)) (k .minus-real .ensures) (i .minus-imaginary .ensures)
-    (x .lanes .ensures) (n .lanes2 .ensures) (y .doubled .ensures) (own-second H _ (m .lanes3 .ensures) (t .turned .ensures)) (c .before .rounds .ensures) (c .bytes .ensures)
+    (x .lanes .ensures) (n .lanes2 .ensures) (y .doubled .ensures) (own-second H _ (m .lanes3 .ensures) (t .swapped .ensures)) (c .before .rounds .ensures) (c .bytes .ensures)
 
 pub sqrdcmlah-crossed-spec : {M : Type 1} → statement M
 sqrdcmlah-crossed-spec =
@@ -57,7 +57,7 @@ sqrdcmlah-crossed-spec =
     lanes-requires-2
     doubled-requires
     lanes-requires-3
-    turned-requires
+    swapped-requires
     minus-real-requires
     minus-imaginary-requires
     rounds-requires

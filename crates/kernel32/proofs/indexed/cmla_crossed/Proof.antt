@@ -28,8 +28,8 @@ lanes-requires-3 c κs = search needs
 repeated-requires : tie.Need-repeated-requires
 repeated-requires c κs = search needs
 
-turned-requires : tie.Need-turned-requires
-turned-requires c κs = search needs
+swapped-requires : tie.Need-swapped-requires
+swapped-requires c κs = search needs
 
 minus-real-requires : tie.Need-minus-real-requires
 minus-real-requires c κs = search needs
@@ -55,7 +55,7 @@ returns c =
     let n = y .before in
     let x = n .before in
     products S (indexed S _) _+ℤ_ (wrapped 32) (pattern-wrapped 32) (x .before .args .rot) (sym (x .before .pre)) (k .minus-real .ensures) (i .minus-imaginary .ensures)
-    (x .lanes .ensures) (n .lanes2 .ensures) (y .doubled .ensures) (index-second S _ (omega arith) (m .lanes3 .ensures) (s .repeated .ensures) (t .turned .ensures)) (c .before .mlas .ensures) (c .bytes .ensures)
+    (x .lanes .ensures) (n .lanes2 .ensures) (y .doubled .ensures) (index-second S _ (omega arith) (m .lanes3 .ensures) (s .repeated .ensures) (t .swapped .ensures)) (c .before .mlas .ensures) (c .bytes .ensures)
 
 pub cmla-crossed-spec : {M : Type 1} → statement M
 cmla-crossed-spec =
@@ -66,7 +66,7 @@ cmla-crossed-spec =
     doubled-requires
     lanes-requires-3
     repeated-requires
-    turned-requires
+    swapped-requires
     minus-real-requires
     minus-imaginary-requires
     mlas-requires

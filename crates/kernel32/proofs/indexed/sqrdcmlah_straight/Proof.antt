@@ -26,8 +26,8 @@ lanes-requires-3 c κs = search needs
 repeated-requires : tie.Need-repeated-requires
 repeated-requires c κs = search needs
 
-turned-requires : tie.Need-turned-requires
-turned-requires c κs = search needs
+swapped-requires : tie.Need-swapped-requires
+swapped-requires c κs = search needs
 
 minus-real-requires : tie.Need-minus-real-requires
 minus-real-requires c κs = search needs
@@ -53,7 +53,7 @@ returns c =
     let n = y .before in
     let x = n .before in
     products S (indexed S _) (saturated 32) (saturated 32) (λ a b. refl) (x .before .args .rot) (sym (x .before .pre)) (k .minus-real .ensures) (i .minus-imaginary .ensures)
-    (x .lanes .ensures) (n .lanes2 .ensures) (y .doubled .ensures) (index-second S _ (omega arith) (m .lanes3 .ensures) (s .repeated .ensures) (t .turned .ensures)) (c .before .rounds .ensures) (c .bytes .ensures)
+    (x .lanes .ensures) (n .lanes2 .ensures) (y .doubled .ensures) (index-second S _ (omega arith) (m .lanes3 .ensures) (s .repeated .ensures) (t .swapped .ensures)) (c .before .rounds .ensures) (c .bytes .ensures)
 
 pub sqrdcmlah-straight-spec : {M : Type 1} → statement M
 sqrdcmlah-straight-spec =
@@ -64,7 +64,7 @@ sqrdcmlah-straight-spec =
     doubled-requires
     lanes-requires-3
     repeated-requires
-    turned-requires
+    swapped-requires
     minus-real-requires
     minus-imaginary-requires
     rounds-requires

@@ -13,22 +13,22 @@ use Rattle.kernel32.proofs.lane.round.Tie as tie
 upper-requires : tie.Need-upper-requires
 upper-requires c κs = search needs
 
-cast-ended : tie.Need-cast-ended
-cast-ended c = fits-cast wide32 (c .before .fits .c)
+cast-clamp-toward : tie.Need-cast-clamp-toward
+cast-clamp-toward c = fits-cast wide32 (c .before .fits .c)
 
-add-ended : tie.Need-add-ended
-add-ended c = search (fits-rounded wide32)
+add-clamp-toward : tie.Need-add-clamp-toward
+add-clamp-toward c = search (fits-rounded wide32)
 
-ended-requires : tie.Need-ended-requires
-ended-requires c κs = search (toward-rounded wide32)
+clamp-toward-requires : tie.Need-clamp-toward-requires
+clamp-toward-requires c κs = search (toward-rounded wide32)
 
 returns : tie.Need-returns
 unfolding saturated
 returns c =
     let u = c .before in
     let s = u .before in
-    kept w32 _ (c .ended .ok) ∙ c .ended .ensures
+    kept w32 _ (c .clamp-toward .ok) ∙ c .clamp-toward .ensures
     ∙ ap (clamp 32) (read-rounded wide32 (s .args .minus) (s .fits .a) (s .fits .b) (s .fits .c) (u .upper .ok) (u .upper .ensures))
 
 pub round-spec : {M : Type 1} → statement M
-round-spec = tie.close (tie.spec upper-requires cast-ended add-ended ended-requires returns)
+round-spec = tie.close (tie.spec upper-requires cast-clamp-toward add-clamp-toward clamp-toward-requires returns)

@@ -15,11 +15,11 @@ cast-plus-minus-2 c = fits-cast wide32 (c .fits .b)
 plus-minus-requires : tie.Need-plus-minus-requires
 plus-minus-requires c κs = lanes-in wide32 (c .fits .c) (c .fits .b)
 
-cast-ended : tie.Need-cast-ended
-cast-ended c = fits-cast wide32 (c .before .fits .c)
+cast-clamp-toward : tie.Need-cast-clamp-toward
+cast-clamp-toward c = fits-cast wide32 (c .before .fits .c)
 
-ended-requires : tie.Need-ended-requires
-ended-requires c κs =
+clamp-toward-requires : tie.Need-clamp-toward-requires
+clamp-toward-requires c κs =
     let f = c .before .fits in
     let minus = c .before .args .minus in
     toward-lanes wide32 minus (f .c) (f .b) (c .plus-minus .ok) (lanes-sum wide32 minus (f .c) (f .b) (c .plus-minus .ensures))
@@ -29,7 +29,7 @@ unfolding clamped
 returns c =
     let s = c .before in
     let f = s .before .fits in
-    read-through wide32 (clamp 32) (c .ended .ok) (s .plus-minus .ok) (c .ended .ensures) (lanes-sum wide32 (s .before .args .minus) (f .c) (f .b) (s .plus-minus .ensures))
+    read-through wide32 (clamp 32) (c .clamp-toward .ok) (s .plus-minus .ok) (c .clamp-toward .ensures) (lanes-sum wide32 (s .before .args .minus) (f .c) (f .b) (s .plus-minus .ensures))
 
 pub sat-spec : {M : Type 1} → statement M
 sat-spec =
@@ -38,6 +38,6 @@ sat-spec =
     cast-plus-minus
     cast-plus-minus-2
     plus-minus-requires
-    cast-ended
-    ended-requires
+    cast-clamp-toward
+    clamp-toward-requires
     returns)

@@ -1,19 +1,18 @@
--- `kernel16::segment::turned` meets its contract: after e turns the first e lanes are taken.
+-- `kernel16::segment::swapped` meets its contract: after e turns the first e lanes are taken.
 -- Assumes nothing.
-use mathlib.Core.Path.{_∙_}
+use mathlib.Core.Path.{refl, _∙_}
 use mathlib.Core.Logic.{⊎-elim}
 use Prim.Native.Nat.{_-_}
 use native.Mathlib.Omega.{arith}
 use borrow.Author.Needs.{needs}
-use borrow.Kind.Array.{eSInt, good-length}
 use lib.IntN.{pos}
 use mir.Syntax.{w16}
 use Rattle.isa.specs.Register.{pairs}
 use Rattle.isa.specs.Stage.{lane, secondPlace}
 use Rattle.isa.proofs.Made.{Made, made-none, made-more, made-all}
 use Rattle.isa.proofs.Places.{taken, second-odd, second-even}
-use Rattle.kernel16.proofs.segment.turned.Statement.{statement}
-use Rattle.kernel16.proofs.segment.turned.Tie as tie
+use Rattle.kernel16.proofs.segment.swapped.Statement.{statement}
+use Rattle.kernel16.proofs.segment.swapped.Tie as tie
 
 abbrev Inv-loop : tie.InvT-loop
 Inv-loop odd m r₀ e₀ r e = Made (pos 0) 8 e (λ k. lane m (secondPlace odd k)) r
@@ -22,7 +21,7 @@ abbrev μ-loop : tie.MeasureT-loop
 μ-loop odd m r₀ e₀ r e = 8 - e
 
 loop-holds : tie.Need-loop-holds Inv-loop μ-loop
-loop-holds c = made-none (good-length (eSInt w16) 8 (c .args .t1) _ (c .good .0))
+loop-holds c = made-none refl
 
 partner-requires : tie.Need-partner-requires Inv-loop μ-loop
 partner-requires c κs = search needs
@@ -62,8 +61,8 @@ returns : tie.Need-returns Inv-loop μ-loop
 unfolding pairs
 returns c = record { at = made-all (c .before .loop .inv) (omega arith) }
 
-pub turned-spec : {M : Type 1} → statement M
-turned-spec =
+pub swapped-spec : {M : Type 1} → statement M
+swapped-spec =
     tie.close
     (tie.spec
     Inv-loop

@@ -1,28 +1,27 @@
--- `kernel32::segment::turned` meets its contract: after e turns the first e lanes are taken.
+-- `kernel64::segment::swapped` meets its contract: after e turns the first e lanes are taken.
 -- Assumes nothing.
-use mathlib.Core.Path.{_∙_}
+use mathlib.Core.Path.{refl, _∙_}
 use mathlib.Core.Logic.{⊎-elim}
 use Prim.Native.Nat.{_-_}
 use native.Mathlib.Omega.{arith}
 use borrow.Author.Needs.{needs}
-use borrow.Kind.Array.{eSInt, good-length}
 use lib.IntN.{pos}
-use mir.Syntax.{w32}
+use mir.Syntax.{w64}
 use Rattle.isa.specs.Register.{pairs}
 use Rattle.isa.specs.Stage.{lane, secondPlace}
 use Rattle.isa.proofs.Made.{Made, made-none, made-more, made-all}
 use Rattle.isa.proofs.Places.{taken, second-odd, second-even}
-use Rattle.kernel32.proofs.segment.turned.Statement.{statement}
-use Rattle.kernel32.proofs.segment.turned.Tie as tie
+use Rattle.kernel64.proofs.segment.swapped.Statement.{statement}
+use Rattle.kernel64.proofs.segment.swapped.Tie as tie
 
 abbrev Inv-loop : tie.InvT-loop
-Inv-loop odd m r₀ e₀ r e = Made (pos 0) 4 e (λ k. lane m (secondPlace odd k)) r
+Inv-loop odd m r₀ e₀ r e = Made (pos 0) 2 e (λ k. lane m (secondPlace odd k)) r
 
 abbrev μ-loop : tie.MeasureT-loop
-μ-loop odd m r₀ e₀ r e = 4 - e
+μ-loop odd m r₀ e₀ r e = 2 - e
 
 loop-holds : tie.Need-loop-holds Inv-loop μ-loop
-loop-holds c = made-none (good-length (eSInt w32) 4 (c .args .t1) _ (c .good .0))
+loop-holds c = made-none refl
 
 partner-requires : tie.Need-partner-requires Inv-loop μ-loop
 partner-requires c κs = search needs
@@ -56,14 +55,14 @@ loop-again c =
     let a = c .before .before .before .args in
     let l = c .before .before .loop in
     made-more (l .inv) (omega arith) _
-    (⊎-elim (λ w. taken w32 (a .t1) _ _ (w .3) (w .2 .given) (w .1 .ensures ∙ second-odd (l .e) (w .0 .taken))) (λ w. taken w32 (a .t1) _ _ (w .2) (w .1 .given) (second-even (l .e) (w .0 .left))) (c .if1 .came))
+    (⊎-elim (λ w. taken w64 (a .t1) _ _ (w .3) (w .2 .given) (w .1 .ensures ∙ second-odd (l .e) (w .0 .taken))) (λ w. taken w64 (a .t1) _ _ (w .2) (w .1 .given) (second-even (l .e) (w .0 .left))) (c .if1 .came))
 
 returns : tie.Need-returns Inv-loop μ-loop
 unfolding pairs
 returns c = record { at = made-all (c .before .loop .inv) (omega arith) }
 
-pub turned-spec : {M : Type 1} → statement M
-turned-spec =
+pub swapped-spec : {M : Type 1} → statement M
+swapped-spec =
     tie.close
     (tie.spec
     Inv-loop

@@ -1,4 +1,4 @@
--- A text placed in a buffer: placing no text, one text after another, and what a function that places one leaves.
+-- A buffer with a text in it: with no text, with one text after another, and what a function that puts one leaves.
 use mathlib.Core.Path.{_≡_, refl, sym, ap, _∙_, subst}
 use mathlib.Core.List.{List, [], _∷_, _++_, append-assoc, append-nil}
 use Prim.Native.Nat.{ℕ, _+_, _-_, _≤_, _<_}
@@ -9,17 +9,17 @@ use lib.ListN.{length, getD, set, take, drop, length-append, length-drop, take-a
 use lib.Seq.{length-take-le, take-at, drop-append-add, drop-drop, paste, paste-zero, paste-suc, length-paste, take-length}
 use Rattle.listing.specs.Call.{withText, Wrote}
 
-pub placed-none : (out : List ℕ) (at : ℕ) → out ≡ withText out at []
+pub with-none : (out : List ℕ) (at : ℕ) → out ≡ withText out at []
 unfolding withText
-placed-none out at = sym (simp (add-zero, append-nil, take-append-drop))
+with-none out at = sym (simp (add-zero, append-nil, take-append-drop))
 
 -- what stands before a text's end
 front-length : (out : List ℕ) (at : ℕ) (a : List ℕ) → at ≤ length out → length (take at out ++ a) ≡ at + length a
 front-length out at a h = length-append (take at out) a ∙ ap (λ (k : ℕ). k + length a) (length-take-le at out h)
 
-pub placed-then : (out : List ℕ) (at : ℕ) (a b : List ℕ) → at + length a + length b ≤ length out → withText (withText out at a) (at + length a) b ≡ withText out at (a ++ b)
+pub with-then : (out : List ℕ) (at : ℕ) (a b : List ℕ) → at + length a + length b ≤ length out → withText (withText out at a) (at + length a) b ≡ withText out at (a ++ b)
 unfolding withText
-placed-then out at a b h =
+with-then out at a b h =
     let front : List ℕ = take at out ++ a in
     let rest : List ℕ = drop (at + length a) out in
     let sized : length front ≡ at + length a = front-length out at a (omega arith) in
@@ -31,21 +31,21 @@ placed-then out at a b h =
     ∙ ap (λ (s : List ℕ). s ++ drop (at + length a + length b) out) (append-assoc (take at out) a b)
     ∙ ap (λ (k : ℕ). take at out ++ (a ++ b) ++ drop k out) (add-assoc at (length a) (length b) ∙ ap (λ (k : ℕ). at + k) (sym (length-append a b)))
 
-pub length-placed : (out : List ℕ) (at : ℕ) (a : List ℕ) → at + length a ≤ length out → length (withText out at a) ≡ length out
+pub length-with : (out : List ℕ) (at : ℕ) (a : List ℕ) → at + length a ≤ length out → length (withText out at a) ≡ length out
 unfolding withText
-length-placed out at a h =
+length-with out at a h =
     length-append (take at out ++ a) (drop (at + length a) out)
     ∙ ap (λ (k : ℕ). k + length (drop (at + length a) out)) (front-length out at a (omega arith))
     ∙ ap (λ (k : ℕ). at + length a + k) (length-drop (at + length a) out)
     ∙ omega arith
 
 -- at the buffer's start
-pub placed-start : (out text : List ℕ) → withText out 0 text ≡ text ++ drop (length text) out
+pub with-start : (out text : List ℕ) → withText out 0 text ≡ text ++ drop (length text) out
 unfolding withText
-placed-start out text = ap (λ (k : ℕ). text ++ drop k out) (zero-add (length text))
+with-start out text = ap (λ (k : ℕ). text ++ drop k out) (zero-add (length text))
 
 pub wrote-none : (out : List ℕ) (at : ℕ) → Wrote out at [] at out
-wrote-none out at = record { past = sym (add-zero at); held = placed-none out at }
+wrote-none out at = record { past = sym (add-zero at); held = with-none out at }
 
 pub wrote-then : {out : List ℕ} {at : ℕ} {a : List ℕ} {n : ℕ} {out₁ : List ℕ} {b : List ℕ} {m : ℕ} {out₂ : List ℕ}
     → Wrote out at a n out₁ → Wrote out₁ n b m out₂ → at + length a + length b ≤ length out → Wrote out at (a ++ b) m out₂
@@ -56,11 +56,11 @@ wrote-then {out} {at} {a} {n} {out₁} {b} {m} {out₂} w v h =
           v .held
           ∙ ap (λ (s : List ℕ). withText s n b) (w .held)
           ∙ ap (λ (k : ℕ). withText (withText out at a) k b) (w .past)
-          ∙ placed-then out at a b h;
+          ∙ with-then out at a b h;
     }
 
 pub wrote-length : {out : List ℕ} {at : ℕ} {a : List ℕ} {n : ℕ} {out₁ : List ℕ} → Wrote out at a n out₁ → at + length a ≤ length out → length out₁ ≡ length out
-wrote-length {out} {at} {a} w h = ap length (w .held) ∙ length-placed out at a h
+wrote-length {out} {at} {a} w h = ap length (w .held) ∙ length-with out at a h
 
 -- the loop that copies a text: so many of its bytes are in place
 pub record Copying (out₀ : List ℕ) (at : ℕ) (text out : List ℕ) (i : ℕ) : Type 0 where
