@@ -113,7 +113,7 @@ pub fn adds(x: [i16; 8], z: [i16; 8], real: bool, imaginary: bool) -> [i16; 8]
 pub fn sats(x: [i16; 8], z: [i16; 8], real: bool, imaginary: bool) -> [i16; 8]
     ensures { λ r. ⌜ Added Size.H (clamped 16) r x z real imaginary ⌝ }
 {
-    let mut r = z;
+    let mut r = [0i16; 8];
     for e in 0..8 {
         r[e] = sat(x[e], z[e], minus_at(real, imaginary, e));
     }

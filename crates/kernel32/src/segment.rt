@@ -117,7 +117,7 @@ pub fn adds(x: [i32; 4], z: [i32; 4], real: bool, imaginary: bool) -> [i32; 4]
 pub fn sats(x: [i32; 4], z: [i32; 4], real: bool, imaginary: bool) -> [i32; 4]
     ensures { λ r. ⌜ Added Size.S (clamped 32) r x z real imaginary ⌝ }
 {
-    let mut r = z;
+    let mut r = [0i32; 4];
     for e in 0..4 {
         r[e] = sat(x[e], z[e], minus_at(real, imaginary, e));
     }

@@ -100,7 +100,7 @@ pub fn adds(x: [i64; 2], z: [i64; 2], real: bool, imaginary: bool) -> [i64; 2]
 pub fn sats(x: [i64; 2], z: [i64; 2], real: bool, imaginary: bool) -> [i64; 2]
     ensures { λ r. ⌜ Added Size.D (clamped 64) r x z real imaginary ⌝ }
 {
-    let mut r = z;
+    let mut r = [0i64; 2];
     for e in 0..2 {
         r[e] = sat(x[e], z[e], minus_at(real, imaginary, e));
     }

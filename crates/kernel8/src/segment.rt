@@ -88,13 +88,13 @@ pub fn adds(x: [i8; 16], z: [i8; 16], real: bool, imaginary: bool) -> [i8; 16]
     r
 }
 
-// Sums, clamped.
+// Sums, clamped, in place: each lane of the second source is read before it is stored.
 pub fn sats(x: [i8; 16], z: [i8; 16], real: bool, imaginary: bool) -> [i8; 16]
     ensures { λ r. ⌜ Added Size.B (clamped 8) r x z real imaginary ⌝ }
 {
     let mut r = z;
     for e in 0..16 {
-        r[e] = sat(x[e], z[e], minus_at(real, imaginary, e));
+        r[e] = sat(x[e], r[e], minus_at(real, imaginary, e));
     }
     r
 }

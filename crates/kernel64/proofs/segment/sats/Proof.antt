@@ -1,9 +1,9 @@
 -- `kernel64::segment::sats` meets its contract: after e turns the first e lanes are worked out.
 -- Assumes nothing.
+use mathlib.Core.Path.{refl}
 use Prim.Native.Nat.{_-_}
 use native.Mathlib.Omega.{arith}
 use borrow.Author.Needs.{needs}
-use borrow.Kind.Array.{eSInt, good-length}
 use lib.IntN.{pos}
 use mir.Syntax.{w64}
 use Rattle.integer.specs.Number.{signedBy}
@@ -22,7 +22,7 @@ abbrev μ-loop : tie.MeasureT-loop
 μ-loop real imaginary x z r₀ e₀ r e = 2 - e
 
 loop-holds : tie.Need-loop-holds Inv-loop μ-loop
-loop-holds c = made-none (good-length (eSInt w64) 2 (c .args .t2) _ (c .good .1 .0))
+loop-holds c = made-none refl
 
 mul-sat : tie.Need-mul-sat Inv-loop μ-loop
 mul-sat c = search needs

@@ -1,6 +1,7 @@
--- `kernel8::segment::sats` meets its contract: after e turns the first e lanes are worked out.
+-- `kernel8::segment::sats` meets its contract: after e turns the first e lanes are worked out, and the others are the second source's.
 -- Assumes nothing.
-use Prim.Native.Nat.{_-_}
+use mathlib.Core.Path.{ap, _∙_}
+use Prim.Native.Nat.{_-_, _≤_}
 use native.Mathlib.Omega.{arith}
 use borrow.Author.Needs.{needs}
 use borrow.Kind.Array.{eSInt, good-length}
@@ -11,18 +12,19 @@ use Rattle.integer.specs.Lane.{clamped}
 use Rattle.integer.proofs.Read.{read-sum}
 use Rattle.isa.specs.Register.{pairs}
 use Rattle.isa.specs.Stage.{lane, minusAt}
-use Rattle.isa.proofs.Made.{Made, made-none, made-more, made-all}
+use Rattle.isa.proofs.Made.{made-all}
+use Rattle.kernel8.proofs.InPlace.{InPlace, in-place-none, in-place-more}
 use Rattle.kernel8.proofs.segment.sats.Statement.{statement}
 use Rattle.kernel8.proofs.segment.sats.Tie as tie
 
 abbrev Inv-loop : tie.InvT-loop
-Inv-loop real imaginary x z r₀ e₀ r e = Made (pos 0) 16 e (λ k. clamped 8 (lane x k) (signedBy (minusAt real imaginary k) (lane z k))) r
+Inv-loop real imaginary x r₀ e₀ r e = InPlace (pos 0) 16 e (λ k. clamped 8 (lane x k) (signedBy (minusAt real imaginary k) (lane r₀ k))) r₀ r
 
 abbrev μ-loop : tie.MeasureT-loop
-μ-loop real imaginary x z r₀ e₀ r e = 16 - e
+μ-loop real imaginary x r₀ e₀ r e = 16 - e
 
 loop-holds : tie.Need-loop-holds Inv-loop μ-loop
-loop-holds c = made-none (good-length (eSInt w8) 16 (c .args .t2) _ (c .good .1 .0))
+loop-holds c = in-place-none (good-length (eSInt w8) 16 (c .args .z) _ (c .good .1 .0))
 
 array-copy-out-sat : tie.Need-array-copy-out-sat Inv-loop μ-loop
 array-copy-out-sat c = search needs
@@ -51,12 +53,13 @@ loop-again c =
     let x = z .before in
     let l = x .before .before .loop in
     let a = x .before .before .before .args in
-    made-more (l .inv) (omega arith) _
-    (read-sum w8 (clamped 8) (lane (a .t1) (l .e)) (lane (a .t2) (l .e)) (c .sat .ok) (x .sat-arg .given) (z .sat-arg2 .given) (c .before .minus-at .ensures) (c .sat .ensures))
+    in-place-more (l .inv) (omega arith) _
+    (read-sum w8 (clamped 8) (lane (a .t1) (l .e)) (lane (l .r) (l .e)) (c .sat .ok) (x .sat-arg .given) (z .sat-arg2 .given) (c .before .minus-at .ensures) (c .sat .ensures)
+    ∙ ap (λ y. clamped 8 (lane (a .t1) (l .e)) (signedBy (minusAt (a .real) (a .imaginary) (l .e)) y)) (l .inv .rest (l .e) (omega arith)))
 
 returns : tie.Need-returns Inv-loop μ-loop
 unfolding pairs
-returns c = record { at = made-all (c .before .loop .inv) (omega arith) }
+returns c = record { at = made-all (c .before .loop .inv .made) (omega arith) }
 
 pub sats-spec : {M : Type 1} → statement M
 sats-spec =
