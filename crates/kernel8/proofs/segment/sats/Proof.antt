@@ -54,8 +54,8 @@ loop-again c =
     let l = x .before .before .loop in
     let a = x .before .before .before .args in
     in-place-more (l .inv) (omega arith) _
-    (read-sum w8 (clamped 8) (lane (a .t1) (l .e)) (lane (l .r) (l .e)) (c .sat .ok) (x .sat-arg .given) (z .sat-arg2 .given) (c .before .minus-at .ensures) (c .sat .ensures)
-    ∙ ap (λ y. clamped 8 (lane (a .t1) (l .e)) (signedBy (minusAt (a .real) (a .imaginary) (l .e)) y)) (l .inv .rest (l .e) (omega arith)))
+    (read-sum w8 (clamped 8) (lane (a .t1) (l .e)) (lane (l .r) _) (c .sat .ok) (x .sat-arg .given) (z .sat-arg2 .given) (c .before .minus-at .ensures) (c .sat .ensures)
+    ∙ ap (λ y. clamped 8 (lane (a .t1) (l .e)) (signedBy (minusAt (a .real) (a .imaginary) (l .e)) y)) (ap (lane (l .r)) (omega arith) ∙ l .inv .rest (l .e) (omega arith)))
 
 returns : tie.Need-returns Inv-loop μ-loop
 unfolding pairs

@@ -1,12 +1,15 @@
 -- `vector64::cadd::cadd` meets its contract: the segments before byte q have been worked.
 -- Assumes nothing.
 use native.Mathlib.Omega.{arith}
-use Prim.Native.Nat.{_+_, _-_}
+use borrow.Author.Needs.{needs}
+use Prim.Native.Nat.{_+_, _-_, _/_, _<_, _≤_}
 use mathlib.Core.Bool.{false}
 use lib.ListN.{length}
 use Rattle.isa.specs.declared.types.Size.the-variants.{D}
 use Rattle.isa.specs.Sources.{addRule}
 use Rattle.regfile.proofs.Sweep.{Sweeping, Room, sweep-starts, sweep-room, sweep-on, sweep-ends}
+use Rattle.isa.proofs.File.{legal-exact}
+use Rattle.vector64.proofs.Test.{in-both, past-one}
 use Rattle.vector64.proofs.cadd.cadd.Statement.{statement}
 use Rattle.vector64.proofs.cadd.cadd.Tie as tie
 
@@ -19,6 +22,10 @@ abbrev μ-loop : tie.MeasureT-loop
 loop-holds : tie.Need-loop-holds Inv-loop μ-loop
 loop-holds c = let s = c .before in let a = s .args in sweep-starts (a .l) _ (a .d) (a .d) (a .m) (a .file .now) (s .pre .0)
 
+-- a segment is left at byte q
+more : (h : tie.In-loop Inv-loop μ-loop) → h .before .loop .q < h .before .before .before .args .l / 8
+more h = search (in-both, needs)
+
 -- the segments at byte q
 room : (h : tie.In-loop Inv-loop μ-loop) →
     let a = h .before .before .before .args in
@@ -28,7 +35,7 @@ room h =
     let s = h .before .before .before in
     let a = s .args in
     let g = h .before .loop in
-    sweep-room (a .l) _ (a .d) (a .d) (a .m) (a .file .now) (s .pre .0) (g .file) (g .q) (g .inv) (h .loop-test .taken)
+    sweep-room (a .l) _ (a .d) (a .d) (a .m) (a .file .now) (s .pre .0) (g .file) (g .q) (g .inv) (more h)
 
 add-read16 : tie.Need-add-read16 Inv-loop μ-loop
 add-read16 c = let r = room (c .before) in omega (arith, r .dest, r .short)
@@ -55,7 +62,7 @@ add-q : tie.Need-add-q Inv-loop μ-loop
 add-q c = let r = room (c .before .before .before .before .before .before .before .before .before) in omega (arith, r .dest, r .short)
 
 loop-less : tie.Need-loop-less Inv-loop μ-loop
-loop-less c = omega (arith, c .before .before .before .before .before .before .before .before .before .loop-test .taken)
+loop-less c = omega (arith, more (c .before .before .before .before .before .before .before .before .before))
 
 loop-again : tie.Need-loop-again Inv-loop μ-loop
 loop-again c =
@@ -67,7 +74,7 @@ loop-again c =
     let g = h .before .loop in
     let s = h .before .before .before in
     let a = s .args in
-    sweep-on (a .l) _ (a .d) (a .d) (a .m) (a .file .now) (s .pre .0) (g .file) (g .q) (g .inv) (h .loop-test .taken)
+    sweep-on (a .l) _ (a .d) (a .d) (a .m) (a .file .now) (s .pre .0) (g .file) (g .q) (g .inv) (more h)
     (r1 .read16 .result) (r1 .read16 .result) (r2 .read162 .result) (k .cadd .result) (w .write16 .last .0)
     (r1 .read16 .ensures) (r1 .read16 .ensures) (r2 .read162 .ensures) (k .cadd .ensures .at) (w .write16 .ensures)
 
@@ -79,7 +86,9 @@ returns c =
     let g = c .before .loop in
     let s = c .before .before .before in
     let a = s .args in
-    sweep-ends (a .l) _ (a .d) (a .d) (a .m) (a .file .now) (s .pre .0) (g .file) (g .q) (g .inv) (c .loop-test .left)
+    let most = legal-exact (a .l) .0 (s .pre .0 .held .ok) .most in
+    let short : g .q ≤ 256 = omega (arith, most, g .inv .bound) in
+    sweep-ends (a .l) _ (a .d) (a .d) (a .m) (a .file .now) (s .pre .0) (g .file) (g .q) (g .inv) (search (past-one, short, arith, needs))
 
 pub cadd-spec : {M : Type 1} → statement M
 cadd-spec =
