@@ -20,8 +20,8 @@ use Rattle.isa.specs.File.{byteAt}
 use Rattle.isa.specs.Run as isa
 use Rattle.isa.proofs.Run.{reserved, outside}
 use Rattle.isa.proofs.Going.{Going, going-starts, going-on, going-stops, going-ends}
-use Rattle.exec.specs.declared.state.State.{State}
-use Rattle.exec.specs.declared.state.Stepped.{Stepped}
+use Rattle.exec.specs.declared.carried.Carried.{Carried}
+use Rattle.exec.specs.declared.carried.Stepped.{Stepped}
 use Rattle.exec.specs.Step.{Executed, endedAs, steppedOf, fileAfter, refusalOf}
 
 -- ---- one word
@@ -29,7 +29,7 @@ use Rattle.exec.specs.Step.{Executed, endedAs, steppedOf, fileAfter, ref
 tag-above : (x : ℕ) → OneOf (1 ∷ 2 ∷ []) x → 0 < x
 tag-above x h = ⊎-elim (λ e. omega arith) (λ e. omega arith) h
 
-module _ (L : ℕ) (file : List ℕ) (s : State) where
+module _ (L : ℕ) (file : List ℕ) (s : Carried) where
   no-operation : (k : Decoded) → OneOf (1 ∷ 2 ∷ []) (tagOf the-type k) → (Stepped.Stopped (endedAs (refusalOf k) s) ≡ steppedOf k L file s) × (file ≡ fileAfter k L file)
   no-operation (Decoded.Operation op) h = let z = tag-above 0 h in absurd (omega arith)
   no-operation Decoded.Reserved h = (refl, refl)
@@ -43,7 +43,7 @@ module _ (L : ℕ) (file : List ℕ) (s : State) where
       (ap Stepped.Stopped (a ∙ ap (λ x. endedAs x s) q) ∙ o .0 ∙ ap (λ x. steppedOf x L file s) p, o .1 ∙ ap (λ x. fileAfter x L file) p)
 
   -- a word that is one
-  pub done-word : (known : Decoded) (op : Op) (after : List ℕ) (clamped : Bool) (next : State) → known ≡ Decoded.Operation op →
+  pub done-word : (known : Decoded) (op : Op) (after : List ℕ) (clamped : Bool) (next : Carried) → known ≡ Decoded.Operation op →
       Executed L op file after clamped → (next .qc ≡ (s .qc || clamped)) × (next .done ≡ s .done + 1) →
       (Stepped.Next next ≡ steppedOf known L file s) × (after ≡ fileAfter known L file)
   done-word known op after clamped next p w n =
@@ -53,18 +53,18 @@ module _ (L : ℕ) (file : List ℕ) (s : State) where
 -- ---- the words in order
 
 -- the defined run's state: the file, and what the code carries
-abbrev pub stateOf : List ℕ → State → isa.State
+abbrev pub stateOf : List ℕ → Carried → isa.State
 stateOf file s = record { file = file; qc = s .qc; done = s .done }
 
-pub words-start : (L : ℕ) (words file : List ℕ) (qc : Bool) (s : State) → length file ≡ 4 * L → (s .qc ≡ qc) × (s .done ≡ 0) →
+pub words-start : (L : ℕ) (words file : List ℕ) (qc : Bool) (s : Carried) → length file ≡ 4 * L → (s .qc ≡ qc) × (s .done ≡ 0) →
     Going L words (isa.start file qc) (stateOf file s) 0
 words-start L words file qc s h e =
     let flag = sym (e .0) in
     let none = sym (e .1) in
     subst (λ x. Going L words (isa.start file qc) x 0) (λ t. record { file = file; qc = flag t; done = none t }) (going-starts L words file qc h)
 
-module _ (L : ℕ) (words : List ℕ) (s₀ : isa.State) (file : List ℕ) (s : State) (i : ℕ) (g : Going L words s₀ (stateOf file s) i) where
-  on-by : (more : i < length words) (next : State) (d : Decoded) → decodeOf (getD words i 0) ≡ d → steppedOf d L file s ≡ Stepped.Next next →
+module _ (L : ℕ) (words : List ℕ) (s₀ : isa.State) (file : List ℕ) (s : Carried) (i : ℕ) (g : Going L words s₀ (stateOf file s) i) where
+  on-by : (more : i < length words) (next : Carried) (d : Decoded) → decodeOf (getD words i 0) ≡ d → steppedOf d L file s ≡ Stepped.Next next →
       Going L words s₀ (stateOf (fileAfter d L file) next) (i + 1)
   unfolding isa.after
   on-by more next (Decoded.Operation op) e h =
@@ -84,7 +84,7 @@ module _ (L : ℕ) (words : List ℕ) (s₀ : isa.State) (file : List ℕ) (s : 
       ap (λ x. record { answer = x; file = file }) (sym same) ∙ going-stops L words s₀ (stateOf file s) i g outside more p
 
   -- the word was an operation, and `next` and `after` are what it left
-  pub words-on : i < length words → (next : State) (stepped : Stepped) (after : List ℕ) →
+  pub words-on : i < length words → (next : Carried) (stepped : Stepped) (after : List ℕ) →
       (stepped ≡ steppedOf (decodeOf (getD words i 0)) L file s) × (after ≡ fileAfter (decodeOf (getD words i 0)) L file) → stepped ≡ Stepped.Next next →
       Going L words s₀ (stateOf after next) (i + 1)
   words-on more next stepped after w e =

@@ -9,20 +9,20 @@ use Rattle.isa.specs.File.{byteAt, fileOf}
 use Rattle.isa.specs.declared.types.Decoded.{Decoded}
 use Rattle.isa.specs.declared.types.Ending.{Ending}
 use Rattle.isa.specs.declared.types.Ran.{Ran}
-use Rattle.exec.specs.declared.state.State.{State}
-use Rattle.exec.specs.declared.state.Stepped.{Stepped}
+use Rattle.exec.specs.declared.carried.Carried.{Carried}
+use Rattle.exec.specs.declared.carried.Stepped.{Stepped}
 
 -- the file after an operation, and whether it set the flag
 pub record Executed (L : ℕ) (op : Op) (file after : List ℕ) (clamped : Bool) : Type 0 where
   pub left : after ≡ fileOf L (step op (byteAt L file))
   pub flag : (qc : Bool) → flagAfter op (byteAt L file) qc ≡ (qc || clamped)
 
--- what a run answers that ends in this state
-abbrev pub endedAs : Ending → State → Ran
+-- what a run answers that ends with what is carried
+abbrev pub endedAs : Ending → Carried → Ran
 endedAs e s = record { ending = e; done = s .done; qc = s .qc }
 
 -- what one word's step answers, and the file that it leaves
-abbrev pub steppedOf : Decoded → ℕ → List ℕ → State → Stepped
+abbrev pub steppedOf : Decoded → ℕ → List ℕ → Carried → Stepped
 steppedOf (Decoded.Operation op) L file s = Stepped.Next (record { qc = flagAfter op (byteAt L file) (s .qc); done = s .done + 1 })
 steppedOf Decoded.Reserved L file s = Stepped.Stopped (endedAs Ending.Reserved s)
 steppedOf Decoded.Outside L file s = Stepped.Stopped (endedAs Ending.Outside s)

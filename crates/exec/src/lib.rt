@@ -1,7 +1,7 @@
 // Executes operations and runs programs on a lent register file.
+mod carried;
 mod families;
 mod program;
-mod state;
 mod step;
 
 pub use program::ending_number;

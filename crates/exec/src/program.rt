@@ -9,8 +9,8 @@ ghost use Rattle.isa.specs.Run.{start, run as definedRun, outcomeOf};
 ghost use Rattle.regfile.specs.Place.{Starts};
 ghost use Rattle.regfile.specs.Sweep.{Held};
 ghost use Rattle.exec.specs.Step.{steppedOf, fileAfter, refusalOf};
-use crate::state::State;
-use crate::state::Stepped;
+use crate::carried::Carried;
+use crate::carried::Stepped;
 use crate::step::step;
 use codec::decode;
 use isa::types::Checked;
@@ -46,18 +46,24 @@ fn refusal(d: Decoded) -> Ending
 }
 
 // One word. `run_words` has checked the file and the number of words.
-fn step_word(l: usize, file: &mut [u8], starts: &[usize; 32], state: State, word: u32) -> Stepped
+fn step_word(
+    l: usize,
+    file: &mut [u8],
+    starts: &[usize; 32],
+    carried: Carried,
+    word: u32,
+) -> Stepped
     requires { ⌜ Held l (now file) ⌝ }
     requires { ⌜ Starts (l / 8) (now starts) ⌝ }
-    requires { ⌜ state .done < 4096 ⌝ }
-    ensures { λ r. ⌜ (r ≡ steppedOf (decodeOf word) l (now (file .entry)) state) × (now (file .exit) ≡ fileAfter (decodeOf word) l (now (file .entry))) ⌝ }
+    requires { ⌜ carried .done < 4096 ⌝ }
+    ensures { λ r. ⌜ (r ≡ steppedOf (decodeOf word) l (now (file .entry)) carried) × (now (file .exit) ≡ fileAfter (decodeOf word) l (now (file .entry))) ⌝ }
 {
     let decoded = decode(word);
     let Decoded::Operation(op) = decoded else {
-        return Stepped::Stopped(state.ended(refusal(decoded)));
+        return Stepped::Stopped(carried.ended(refusal(decoded)));
     };
     let clamped = step(l, file, starts, op);
-    Stepped::Next(state.counted(clamped))
+    Stepped::Next(carried.counted(clamped))
 }
 
 // The words in order, until one is no operation. `run` has checked the file and the number of words.
@@ -67,13 +73,13 @@ fn run_words(l: usize, file: &mut [u8], qc: bool, words: &[u32]) -> Ran
     ensures { λ r. ⌜ record { answer = r; file = now (file .exit) } ≡ definedRun l (now (words .entry)) (start (now (file .entry)) qc) ⌝ }
 {
     let starts = starts(l >> 3);
-    let mut state = State::new(qc);
+    let mut carried = Carried::new(qc);
     let mut i = 0;
     while i < words.len() {
-        let stepped = step_word(l, file, &starts, state, words[i]);
+        let stepped = step_word(l, file, &starts, carried, words[i]);
         match stepped {
             Stepped::Next(next) => {
-                state = next;
+                carried = next;
             }
             Stepped::Stopped(ran) => {
                 return ran;
@@ -81,7 +87,7 @@ fn run_words(l: usize, file: &mut [u8], qc: bool, words: &[u32]) -> Ran
         }
         i += 1;
     }
-    state.ended(Ending::Done)
+    carried.ended(Ending::Done)
 }
 
 // A refusal before the first word.

@@ -50,7 +50,7 @@ made-written L op k g d n m dest first second i =
 -- ---- the loop over the segments
 
 -- three segments of a short list
-pub record Room (size d n m : ℕ) : Type 0 where
+pub record InFile (size d n m : ℕ) : Type 0 where
   pub dest : d + 16 ≤ size
   pub first : n + 16 ≤ size
   pub second : m + 16 ≤ size
@@ -86,7 +86,7 @@ module _ (L : ℕ) (rule : Rule) (d n m : ℕ) (f : List ℕ) (lying : Lying L f
       step-within : q + 16 ≤ L / 8
       step-within = let whole = legal-exact L .0 (held .ok) .whole in omega (arith, i .aligned)
 
-      pub sweep-room : Room (length g) (d + q) (n + q) (m + q)
+      pub sweep-room : InFile (length g) (d + q) (n + q) (m + q)
       sweep-room =
           let most = legal-exact L .0 (held .ok) .most in
           let size : length g ≡ 4 * L = i .sized ∙ held .sized in

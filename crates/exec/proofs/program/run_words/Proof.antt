@@ -13,10 +13,10 @@ use Rattle.exec.proofs.program.run_words.Statement.{statement}
 use Rattle.exec.proofs.program.run_words.Tie as tie
 
 abbrev Inv-loop : tie.InvT-loop
-Inv-loop l file₀ qc words starts state₀ i₀ file state i = Going l words (start file₀ qc) (stateOf file state) i
+Inv-loop l file₀ qc words starts carried₀ i₀ file carried i = Going l words (start file₀ qc) (stateOf file carried) i
 
 abbrev μ-loop : tie.MeasureT-loop
-μ-loop l file₀ qc words starts state₀ i₀ file state i = length words - i
+μ-loop l file₀ qc words starts carried₀ i₀ file carried i = length words - i
 
 starts-requires : tie.Need-starts-requires Inv-loop μ-loop
 starts-requires c κs = let s = c .before .before in omega (arith, legal-exact (s .args .l) .0 (s .pre .0 .ok) .most)
@@ -63,7 +63,7 @@ returns c =
     let h = k .before .before .before .before .before in
     let s = h .before .before .before .before .before in
     let a = s .args in
-    words-stop (a .l) (a .words .now) (start (a .file .now) (a .qc)) (h .loop .file) (h .loop .state) (h .loop .i) (h .loop .inv)
+    words-stop (a .l) (a .words .now) (start (a .file .now) (a .qc)) (h .loop .file) (h .loop .carried) (h .loop .i) (h .loop .inv)
     (k .before .before .before .before .loop-test .taken) (c .before .stepped2 .given .0 .0) (k .step-word .result) _ (k .step-word .ensures)
     (c .before .stepped2 .given .1)
 
@@ -79,7 +79,7 @@ loop-again c =
     let h = k .before .before .before .before .before in
     let s = h .before .before .before .before .before in
     let a = s .args in
-    words-on (a .l) (a .words .now) (start (a .file .now) (a .qc)) (h .loop .file) (h .loop .state) (h .loop .i) (h .loop .inv)
+    words-on (a .l) (a .words .now) (start (a .file .now) (a .qc)) (h .loop .file) (h .loop .carried) (h .loop .i) (h .loop .inv)
     (k .before .before .before .before .loop-test .taken) (c .before .stepped .given .0 .0) (k .step-word .result) _ (k .step-word .ensures) (c .before .stepped .given .1)
 
 ended-requires : tie.Need-ended-requires Inv-loop μ-loop
@@ -96,7 +96,7 @@ returns-2 c =
     let h = c .before .before in
     let s = h .before .before .before .before .before in
     let a = s .args in
-    words-end (a .l) (a .words .now) (start (a .file .now) (a .qc)) (h .loop .file) (h .loop .state) (h .loop .i) (h .loop .inv) (c .before .loop-test .left) (c .ended .result) (c .ended .ensures)
+    words-end (a .l) (a .words .now) (start (a .file .now) (a .qc)) (h .loop .file) (h .loop .carried) (h .loop .i) (h .loop .inv) (c .before .loop-test .left) (c .ended .result) (c .ended .ensures)
 
 pub run-words-spec : {M : Type 1} → statement M
 run-words-spec =

@@ -25,7 +25,7 @@ returns c =
     let f = c .before in
     let d = f .before .before in
     let a = d .before .before .args in
-    refused-word (a .l) (a .file .now) (a .state) (d .decode .result) (decodeOf (a .word)) (f .refusal .result) (c .ended .result) (f .before .match .keys2)
+    refused-word (a .l) (a .file .now) (a .carried) (d .decode .result) (decodeOf (a .word)) (f .refusal .result) (c .ended .result) (f .before .match .keys2)
     (d .decode .ensures) (f .refusal .ensures) (c .ended .ensures)
 
 step-requires : tie.Need-step-requires
@@ -47,7 +47,7 @@ returns-2 c =
     let o = t .before .before .before in
     let d = o .before .before in
     let a = d .before .before .args in
-    done-word (a .l) (a .file .now) (a .state) (decodeOf (a .word)) (o .decoded .given .0 .0) _ (t .step .result) (c .counted .result)
+    done-word (a .l) (a .file .now) (a .carried) (decodeOf (a .word)) (o .decoded .given .0 .0) _ (t .step .result) (c .counted .result)
     (sym (d .decode .ensures) ∙ o .decoded .given .1) (t .step .ensures) (c .counted .ensures)
 
 pub step-word-spec : {M : Type 1} → statement M

@@ -7,7 +7,7 @@ use mathlib.Core.Bool.{false}
 use lib.ListN.{length}
 use Rattle.isa.specs.declared.types.Size.the-variants.{D}
 use Rattle.isa.specs.Sources.{addRule}
-use Rattle.regfile.proofs.Sweep.{Sweeping, Room, sweep-starts, sweep-room, sweep-on, sweep-ends}
+use Rattle.regfile.proofs.Sweep.{Sweeping, InFile, sweep-starts, sweep-room, sweep-on, sweep-ends}
 use Rattle.isa.proofs.File.{legal-exact}
 use Rattle.vector64.proofs.Test.{in-both, past-one}
 use Rattle.vector64.proofs.cadd.cadd.Statement.{statement}
@@ -30,7 +30,7 @@ more h = search (in-both, needs)
 room : (h : tie.In-loop Inv-loop μ-loop) →
     let a = h .before .before .before .args in
     let g = h .before .loop in
-    Room (length (g .file)) (a .d + g .q) (a .d + g .q) (a .m + g .q)
+    InFile (length (g .file)) (a .d + g .q) (a .d + g .q) (a .m + g .q)
 room h =
     let s = h .before .before .before in
     let a = s .args in

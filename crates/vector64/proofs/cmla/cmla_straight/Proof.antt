@@ -6,7 +6,7 @@ use mathlib.Core.Bool.{false}
 use lib.ListN.{length}
 use Rattle.isa.specs.declared.types.Size.the-variants.{D}
 use Rattle.isa.specs.Sources.{mulRule}
-use Rattle.regfile.proofs.Sweep.{Sweeping, Room, sweep-starts, sweep-room, sweep-on, sweep-ends}
+use Rattle.regfile.proofs.Sweep.{Sweeping, InFile, sweep-starts, sweep-room, sweep-on, sweep-ends}
 use Rattle.vector64.proofs.cmla.cmla_straight.Statement.{statement}
 use Rattle.vector64.proofs.cmla.cmla_straight.Tie as tie
 
@@ -23,7 +23,7 @@ loop-holds c = let s = c .before in let a = s .args in sweep-starts (a .l) _ (a 
 room : (h : tie.In-loop Inv-loop μ-loop) →
     let a = h .before .before .before .args in
     let g = h .before .loop in
-    Room (length (g .file)) (a .d + g .q) (a .n + g .q) (a .m + g .q)
+    InFile (length (g .file)) (a .d + g .q) (a .n + g .q) (a .m + g .q)
 room h =
     let s = h .before .before .before in
     let a = s .args in

@@ -7,7 +7,7 @@ use lib.ListN.{length}
 use Rattle.isa.specs.declared.types.Size.the-variants.{D}
 use Rattle.isa.specs.Register.{bits, bytes}
 use Rattle.isa.specs.Sources.{addRule}
-use Rattle.regfile.proofs.Sweep.{Sweeping, Room, sweep-starts, sweep-room, sweep-on, sweep-ends}
+use Rattle.regfile.proofs.Sweep.{Sweeping, InFile, sweep-starts, sweep-room, sweep-on, sweep-ends}
 use Rattle.vector64.proofs.sqcadd.sqcadd.Statement.{statement}
 use Rattle.vector64.proofs.sqcadd.sqcadd.Tie as tie
 
@@ -24,7 +24,7 @@ loop-holds c = let s = c .before in let a = s .args in sweep-starts (a .l) _ (a 
 room : (h : tie.In-loop Inv-loop μ-loop) →
     let a = h .before .before .before .args in
     let g = h .before .loop in
-    Room (length (g .file)) (a .d + g .q) (a .d + g .q) (a .m + g .q)
+    InFile (length (g .file)) (a .d + g .q) (a .d + g .q) (a .m + g .q)
 room h =
     let s = h .before .before .before in
     let a = s .args in

@@ -1,10 +1,10 @@
--- `exec::state::State::counted` meets its contract.
+-- `exec::carried::Carried::counted` meets its contract.
 -- Assumes nothing.
 use borrow.Author.Needs.{needs}
 use mathlib.Core.Path.{refl}
 use mathlib.Core.Logic.{⊎-elim}
-use Rattle.exec.proofs.state.State.counted.Statement.{statement}
-use Rattle.exec.proofs.state.State.counted.Tie as tie
+use Rattle.exec.proofs.carried.Carried.counted.Statement.{statement}
+use Rattle.exec.proofs.carried.Carried.counted.Tie as tie
 
 add-t7 : tie.Need-add-t7
 add-t7 c = search needs
