@@ -10,7 +10,7 @@ use Rattle.isa.specs.declared.types.Form.{Form}
 use Rattle.listing.proofs.Tests.{arm-past}
 use Rattle.capi.specs.declared.encode.Numbers.{Numbers}
 use Rattle.capi.specs.declared.encode.Named.{Named}
-use Rattle.capi.specs.Encode.{numbersAt, withinOf, formOf, families, familyNamed, namedOf, namedNumber, encodeCall}
+use Rattle.capi.specs.Encode.{numbersAt, withinOf, formOf, families, familyNamed, namedOf, namedPacked, encodeCall}
 
 pub form-rest : (n : ℕ) → 2 ≤ n → Form.Vector128 ≡ formOf n
 form-rest zero h = absurd (omega arith)
@@ -50,6 +50,6 @@ pub encode-refused : (fields : List ℕ) → (length fields ≡ 8 → ⊥) → 3
 unfolding encodeCall
 encode-refused fields ne = rw (ne-eqb (length fields) 8 ne)
 
-pub encode-eight : (fields : List ℕ) → length fields ≡ 8 → namedNumber (namedOf (numbersAt fields)) ≡ encodeCall fields
+pub encode-eight : (fields : List ℕ) → length fields ≡ 8 → namedPacked (namedOf (numbersAt fields)) ≡ encodeCall fields
 unfolding encodeCall
 encode-eight fields e = rw (eq-eqb (length fields) 8 e)

@@ -9,7 +9,7 @@ use Rattle.isa.specs.declared.types.Asked.{Asked}
 use Rattle.isa.specs.File.{registerCheck, registerOf, partIf}
 use Rattle.isa.specs.Number.{askedNumber}
 use Rattle.isa.proofs.FileChecks.{register-ends}
-use Rattle.capi.specs.Register.{Place, partNumber, packedAsked, registerCall}
+use Rattle.capi.specs.Register.{Place, partPacked, packedAsked, registerCall, partAt}
 
 refused-number : (k : Asked) (part : ℕ) → (k ≡ Asked.Found → ⊥) → askedNumber k ≡ packedAsked k part
 refused-number Asked.Found part ne = absurd (ne refl)
@@ -20,10 +20,10 @@ refused-number Asked.NoRegister part ne = refl
 module _ (L size n : ℕ) where
   pub register-refused : {k : Asked} → k ≡ registerCheck L size n → (k ≡ Asked.Found → ⊥) → askedNumber k ≡ registerCall L size n
   unfolding registerCall
-  register-refused {k} e ne = refused-number k (partNumber (n * (L / 8)) (L / 8)) ne ∙ ap (λ (x : Asked). packedAsked x (partNumber (n * (L / 8)) (L / 8))) e
+  register-refused {k} e ne = refused-number k (partPacked (n * (L / 8)) (L / 8)) ne ∙ ap (λ (x : Asked). packedAsked x (partPacked (n * (L / 8)) (L / 8))) e
 
   module _ (e : registerCheck L size n ≡ Asked.Found) where
-    pub register-passed : partNumber (n * (L / 8)) (L / 8) ≡ registerCall L size n
+    pub register-passed : partPacked (n * (L / 8)) (L / 8) ≡ registerCall L size n
     unfolding registerCall askedNumber
     register-passed = rw e (omega arith)
 
@@ -38,30 +38,26 @@ module _ (L size n : ℕ) where
 zero-plus : (x : ℕ) → x ≡ 0 + x
 zero-plus x = omega arith
 
-part-start : (s l : ℕ) → Place s l → partNumber s l / 0x1_0000 % 0x100_0000 ≡ s
-unfolding partNumber
+part-start : (s l : ℕ) → Place s l → partPacked s l / 0x1_0000 % 0x100_0000 ≡ s
+unfolding partPacked
 part-start s l p = omega arith
 
-part-length : (s l : ℕ) → Place s l → partNumber s l / 0x100_0000_0000 ≡ l
-unfolding partNumber
+part-length : (s l : ℕ) → Place s l → partPacked s l / 0x100_0000_0000 ≡ l
+unfolding partPacked
 part-length s l p = omega arith
 
 module _ (L : ℕ) (file : List ℕ) (n : ℕ) where
-  -- what the start and the length of a number cut out of the file
-  abbrev cut : ℕ → List ℕ
-  cut answer = take (answer / 0x100_0000_0000) (drop (answer / 0x1_0000 % 0x100_0000) file)
-
-  cut-checked : (k : Asked) → registerCheck L (length file) n ≡ k → registerOf L file n ≡ cut (registerCall L (length file) n)
+  cut-checked : (k : Asked) → registerCheck L (length file) n ≡ k → registerOf L file n ≡ partAt file (registerCall L (length file) n)
   unfolding registerOf registerCall askedNumber
   cut-checked Asked.Found e =
       let p = register-place L (length file) n e in
       rw e
       (ap (λ (l : ℕ). take l (drop (n * (L / 8)) file)) (sym (part-length (n * (L / 8)) (L / 8) p))
-      ∙ ap (λ (s : ℕ). take (partNumber (n * (L / 8)) (L / 8) / 0x100_0000_0000) (drop s file)) (sym (part-start (n * (L / 8)) (L / 8) p))
-      ∙ ap cut (zero-plus (partNumber (n * (L / 8)) (L / 8))))
+      ∙ ap (λ (s : ℕ). take (partPacked (n * (L / 8)) (L / 8) / 0x100_0000_0000) (drop s file)) (sym (part-start (n * (L / 8)) (L / 8) p))
+      ∙ ap (partAt file) (zero-plus (partPacked (n * (L / 8)) (L / 8))))
   cut-checked Asked.BadLength e = rw e
   cut-checked Asked.BadSize e = rw e
   cut-checked Asked.NoRegister e = rw e
 
-  pub register-cut : registerOf L file n ≡ cut (registerCall L (length file) n)
+  pub register-cut : registerOf L file n ≡ partAt file (registerCall L (length file) n)
   register-cut = cut-checked (registerCheck L (length file) n) refl

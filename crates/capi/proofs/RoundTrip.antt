@@ -24,7 +24,7 @@ use Rattle.capi.specs.declared.encode.Numbers.{Numbers}
 use Rattle.capi.specs.declared.encode.Named.{Named}
 use Rattle.capi.specs.Fields.{formNumber, addFields, mulFields, indexedFields, elementFields, fieldsOf}
 use Rattle.capi.specs.Decode.{badPart, decodeAnswer, pickDecode, decodeCall}
-use Rattle.capi.specs.Encode.{numbersAt, withinOf, formOf, addAt, mulAt, indexedAt, elementAt, familyNamed, namedOf, writtenPacked, namedNumber, encodeCall}
+use Rattle.capi.specs.Encode.{numbersAt, withinOf, formOf, addAt, mulAt, indexedAt, elementAt, familyNamed, namedOf, writtenPacked, namedPacked, encodeCall}
 use Rattle.capi.proofs.Named.{named-within, encode-eight}
 
 -- ---- the numbers of a size, a rotation and a form, and back
@@ -126,10 +126,10 @@ fields-eight (Op.Sqrdmlah a) = refl
 fields-eight (Op.Sqrdmlsh a) = refl
 
 encode-fields : (op : Op) (w : ℕ) → encodeOf op ≡ Written.Word w → encodeCall (fieldsOf op) ≡ w * 0x1_0000_0000
-unfolding namedNumber writtenPacked writtenNumber writtenWord
+unfolding namedPacked writtenPacked writtenNumber writtenWord
 encode-fields op w e =
     sym (encode-eight (fieldsOf op) (fields-eight op))
-    ∙ ap namedNumber (fields-named op)
+    ∙ ap namedPacked (fields-named op)
     ∙ ap writtenPacked e
     ∙ omega arith
 

@@ -100,13 +100,13 @@ writtenPacked w = writtenNumber w + writtenWord w * 0x1_0000_0000
 abbrev pub noOperation : ℕ
 noOperation = 33
 
-unfoldable pub namedNumber : Named → ℕ
-namedNumber (Named.Operation op) = writtenPacked (encodeOf op)
-namedNumber Named.Nothing = noOperation
+unfoldable pub namedPacked : Named → ℕ
+namedPacked (Named.Operation op) = writtenPacked (encodeOf op)
+namedPacked Named.Nothing = noOperation
 
 abbrev pub pickNumber : Bool → ℕ → ℕ → ℕ
 pickNumber true a b = a
 pickNumber false a b = b
 
 unfoldable pub encodeCall : List ℕ → ℕ
-encodeCall fields = pickNumber (eqb (length fields) 8) (namedNumber (namedOf (numbersAt fields))) badPart
+encodeCall fields = pickNumber (eqb (length fields) 8) (namedPacked (namedOf (numbersAt fields))) badPart

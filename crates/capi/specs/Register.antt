@@ -1,12 +1,14 @@
 -- What `kob_register` answers.
-use Prim.Native.Nat.{ℕ, _+_, _*_, _/_, _<_}
+use Prim.Native.Nat.{ℕ, _+_, _*_, _/_, _%_, _<_}
+use mathlib.Core.List.{List}
+use lib.ListN.{take, drop}
 use Rattle.isa.specs.File.{registerCheck}
 use Rattle.isa.specs.Number.{askedNumber}
 use Rattle.isa.specs.declared.types.Asked.{Asked}
 
 -- the start in bits 16 to 39, the length in bits 40 to 63
-unfoldable pub partNumber : ℕ → ℕ → ℕ
-partNumber start length = start * 0x1_0000 + length * 0x100_0000_0000
+unfoldable pub partPacked : ℕ → ℕ → ℕ
+partPacked start length = start * 0x1_0000 + length * 0x100_0000_0000
 
 -- both have room there
 pub record Place (start length : ℕ) : Type 0 where
@@ -22,4 +24,8 @@ packedAsked Asked.NoRegister part = askedNumber Asked.NoRegister
 
 -- register n has L/8 bytes and stands behind the n registers before it
 unfoldable pub registerCall : ℕ → ℕ → ℕ → ℕ
-registerCall L size n = packedAsked (registerCheck L size n) (partNumber (n * (L / 8)) (L / 8))
+registerCall L size n = packedAsked (registerCheck L size n) (partPacked (n * (L / 8)) (L / 8))
+
+-- the part that a caller finds by the start and the length of an answer
+abbrev pub partAt : List ℕ → ℕ → List ℕ
+partAt file answer = take (answer / 0x100_0000_0000) (drop (answer / 0x1_0000 % 0x100_0000) file)

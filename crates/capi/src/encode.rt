@@ -3,7 +3,7 @@ ghost use mathlib.Core.Path.{_≡_};
 ghost use lib.ListN.{length};
 ghost use Rattle.isa.specs.Decode.{sizeOf, rotationOf};
 ghost use Rattle.codec.specs.Pair.{addBy, mulBy, indexedBy, elementBy};
-ghost use Rattle.capi.specs.Encode.{numbersAt, withinOf, formOf, addAt, mulAt, indexedAt, elementAt, namedIf, addUnused, mulUnused, indexedUnused, elementUnused, familyNamed, namedOf, writtenPacked, namedNumber, encodeCall};
+ghost use Rattle.capi.specs.Encode.{numbersAt, withinOf, formOf, addAt, mulAt, indexedAt, elementAt, namedIf, addUnused, mulUnused, indexedUnused, elementUnused, familyNamed, namedOf, writtenPacked, namedPacked, encodeCall};
 use isa::types::Add;
 use isa::types::ByElement;
 use isa::types::Form;
@@ -261,7 +261,7 @@ fn packed_written(w: Written) -> u64
 }
 
 fn packed_named(named: Named) -> u64
-    ensures { λ r. ⌜ r ≡ namedNumber named ⌝ }
+    ensures { λ r. ⌜ r ≡ namedPacked named ⌝ }
 {
     match named {
         Named::Operation(op) => packed_written(codec::encode(op)),

@@ -1,7 +1,7 @@
 // Where a register stands in a file.
 ghost use mathlib.Core.Path.{_≡_};
 ghost use Rattle.isa.specs.Number.{askedNumber};
-ghost use Rattle.capi.specs.Register.{Place, partNumber, registerCall};
+ghost use Rattle.capi.specs.Register.{Place, partPacked, registerCall};
 use isa::types::Asked;
 use regfile::check::asked_number;
 use regfile::check::check_register;
@@ -16,7 +16,7 @@ fn number_of(a: Asked) -> u64
 // The start in bits 16 to 39 and the length in bits 40 to 63.
 fn packed_part(start: usize, length: usize) -> u64
     requires { ⌜ Place start length ⌝ }
-    ensures { λ r. ⌜ r ≡ partNumber start length ⌝ }
+    ensures { λ r. ⌜ r ≡ partPacked start length ⌝ }
 {
     ((start as u64) << 16) + ((length as u64) << 40)
 }

@@ -14,7 +14,7 @@ use Rattle.isa.specs.declared.types.Checked.{Checked}
 use Rattle.isa.specs.declared.types.Ending.{Ending}
 use Rattle.isa.specs.declared.types.Ran.{Ran}
 use Rattle.isa.proofs.Run.{run-count}
-use Rattle.capi_run.specs.Run.{RunAnswer, flagNumber, ranNumber, packedOutcome, runCall}
+use Rattle.capi_run.specs.Run.{RunAnswer, flagPacked, ranPacked, packedOutcome, runCall, RunBits}
 
 pub ending-small : (e : Ending) → endingNumber e < 6
 unfolding endingNumber
@@ -39,7 +39,7 @@ module _ (L : ℕ) (file : List ℕ) (qc : Bool) (words : List ℕ) where
   unfolding outcomeOf
   run-short = checked-short (checkOf L (length file))
 
-  pub run-packed : {r : Ran} {after : List ℕ} {n : ℕ} → record { answer = r; file = after } ≡ outcomeOf L file qc words → n ≡ ranNumber r
+  pub run-packed : {r : Ran} {after : List ℕ} {n : ℕ} → record { answer = r; file = after } ≡ outcomeOf L file qc words → n ≡ ranPacked r
       → record { answer = n; file = after } ≡ runCall L file qc words
   unfolding runCall
   run-packed e f = rw f (ap packedOutcome e)
@@ -47,15 +47,8 @@ module _ (L : ℕ) (file : List ℕ) (qc : Bool) (words : List ℕ) where
   pub ran-short : {r : Ran} {after : List ℕ} → record { answer = r; file = after } ≡ outcomeOf L file qc words → r .done ≤ 4096
   ran-short e = omega (arith, run-short, ap (λ (o : Outcome). o .answer .done) e)
 
--- the number in bits 0 to 7, the flag in bit 8, the words done in bits 16 to 31, and no other bit
-pub record Parts (r : Ran) (n : ℕ) : Type 0 where
-  pub number : n % 0x100 ≡ endingNumber (r .ending)
-  pub flag : eqb (n / 0x100 % 0x100) 1 ≡ r .qc
-  pub done : n / 0x1_0000 ≡ r .done
-  pub size : n < 0x1_0000_0000
-
-ran-parts : (e : Ending) (done : ℕ) (qc : Bool) → done ≤ 4096 → Parts (record { ending = e; done = done; qc = qc }) (ranNumber (record { ending = e; done = done; qc = qc }))
-unfolding ranNumber
+ran-parts : (e : Ending) (done : ℕ) (qc : Bool) → done ≤ 4096 → RunBits (record { ending = e; done = done; qc = qc }) (ranPacked (record { ending = e; done = done; qc = qc }))
+unfolding ranPacked
 ran-parts e done true h =
     let s = ending-small e in
     let n = endingNumber e + 0x100 + done * 0x1_0000 in
@@ -67,7 +60,7 @@ ran-parts e done false h =
     let f : n / 0x100 % 0x100 ≡ 0 = omega arith in
     record { number = omega arith; flag = rw f; done = omega arith; size = omega arith }
 
-pub run-parts : (L : ℕ) (file : List ℕ) (qc : Bool) (words : List ℕ) → Parts (outcomeOf L file qc words .answer) (runCall L file qc words .answer)
+pub run-parts : (L : ℕ) (file : List ℕ) (qc : Bool) (words : List ℕ) → RunBits (outcomeOf L file qc words .answer) (runCall L file qc words .answer)
 unfolding runCall
 run-parts L file qc words =
     let r = outcomeOf L file qc words .answer in

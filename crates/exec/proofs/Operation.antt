@@ -33,7 +33,7 @@ use Rattle.exec.specs.Step.{Executed}
 -- ---- where the registers are
 
 -- an operation's registers start at d, n and m, and lie in the file
-pub record Found (L : ℕ) (f : List ℕ) (op : Op) (d n m : ℕ) : Type 0 where
+pub record RegistersAt (L : ℕ) (f : List ℕ) (op : Op) (d n m : ℕ) : Type 0 where
   pub placed : Placed (L / 8) op d n m
   pub lying : Lying L f d n m
   pub within : Within (length f) d n m
@@ -49,7 +49,7 @@ module _ (L : ℕ) (f : List ℕ) (held : Held L f) (starts : List ℕ) (table :
 
   -- by the table of starts, at three places that are the numbers of its registers
   pub found : (op : Op) → Valid op → (d n m : ℕ) → d ≡ destOf op → n ≡ firstOf op → m ≡ secondOf op →
-      Found L f op (getD starts d 0) (getD starts n 0) (getD starts m 0)
+      RegistersAt L f op (getD starts d 0) (getD starts n 0) (getD starts m 0)
   found op valid d n m dest first second =
       let b = valid-below op valid in
       let k = legal-exact L .0 (held .ok) in

@@ -22,7 +22,7 @@ use Rattle.isa.proofs.Run.{reserved, outside}
 use Rattle.isa.proofs.Going.{Going, going-starts, going-on, going-stops, going-ends}
 use Rattle.exec.specs.declared.carried.Carried.{Carried}
 use Rattle.exec.specs.declared.carried.Stepped.{Stepped}
-use Rattle.exec.specs.Step.{Executed, endedAs, steppedOf, fileAfter, refusalOf}
+use Rattle.exec.specs.Step.{Executed, ranOf, steppedOf, fileAfter, refusalOf}
 
 -- ---- one word
 
@@ -30,17 +30,17 @@ tag-above : (x : ℕ) → OneOf (1 ∷ 2 ∷ []) x → 0 < x
 tag-above x h = ⊎-elim (λ e. omega arith) (λ e. omega arith) h
 
 module _ (L : ℕ) (file : List ℕ) (s : Carried) where
-  no-operation : (k : Decoded) → OneOf (1 ∷ 2 ∷ []) (tagOf the-type k) → (Stepped.Stopped (endedAs (refusalOf k) s) ≡ steppedOf k L file s) × (file ≡ fileAfter k L file)
+  no-operation : (k : Decoded) → OneOf (1 ∷ 2 ∷ []) (tagOf the-type k) → (Stepped.Stopped (ranOf (refusalOf k) s) ≡ steppedOf k L file s) × (file ≡ fileAfter k L file)
   no-operation (Decoded.Operation op) h = let z = tag-above 0 h in absurd (omega arith)
   no-operation Decoded.Reserved h = (refl, refl)
   no-operation Decoded.Outside h = (refl, refl)
 
   -- a word that is no operation
-  pub refused-word : (k known : Decoded) (e : Ending) (r : Ran) → OneOf (1 ∷ 2 ∷ []) (tagOf the-type k) → k ≡ known → e ≡ refusalOf k → r ≡ endedAs e s →
+  pub refused-word : (k known : Decoded) (e : Ending) (r : Ran) → OneOf (1 ∷ 2 ∷ []) (tagOf the-type k) → k ≡ known → e ≡ refusalOf k → r ≡ ranOf e s →
       (Stepped.Stopped r ≡ steppedOf known L file s) × (file ≡ fileAfter known L file)
   refused-word k known e r h p q a =
       let o = no-operation k h in
-      (ap Stepped.Stopped (a ∙ ap (λ x. endedAs x s) q) ∙ o .0 ∙ ap (λ x. steppedOf x L file s) p, o .1 ∙ ap (λ x. fileAfter x L file) p)
+      (ap Stepped.Stopped (a ∙ ap (λ x. ranOf x s) q) ∙ o .0 ∙ ap (λ x. steppedOf x L file s) p, o .1 ∙ ap (λ x. fileAfter x L file) p)
 
   -- a word that is one
   pub done-word : (known : Decoded) (op : Op) (after : List ℕ) (clamped : Bool) (next : Carried) → known ≡ Decoded.Operation op →
@@ -77,10 +77,10 @@ module _ (L : ℕ) (words : List ℕ) (s₀ : isa.State) (file : List ℕ) (s : 
       record { answer = r; file = fileAfter d L file } ≡ isa.run L words s₀
   stop-by more r (Decoded.Operation op) p h = let z : _≡_ {A = ℕ} 0 1 = cc in absurd (omega arith)
   stop-by more r Decoded.Reserved p h =
-      let same : endedAs Ending.Reserved s ≡ r = cc in
+      let same : ranOf Ending.Reserved s ≡ r = cc in
       ap (λ x. record { answer = x; file = file }) (sym same) ∙ going-stops L words s₀ (stateOf file s) i g reserved more p
   stop-by more r Decoded.Outside p h =
-      let same : endedAs Ending.Outside s ≡ r = cc in
+      let same : ranOf Ending.Outside s ≡ r = cc in
       ap (λ x. record { answer = x; file = file }) (sym same) ∙ going-stops L words s₀ (stateOf file s) i g outside more p
 
   -- the word was an operation, and `next` and `after` are what it left
@@ -98,6 +98,6 @@ module _ (L : ℕ) (words : List ℕ) (s₀ : isa.State) (file : List ℕ) (s : 
       (λ t. record { answer = r; file = w .1 t }) ∙ stop-by more r (decodeOf (getD words i 0)) refl (sym (w .0) ∙ p)
 
   -- no word is left
-  pub words-end : length words ≤ i → (r : Ran) → r ≡ endedAs Ending.Done s →
+  pub words-end : length words ≤ i → (r : Ran) → r ≡ ranOf Ending.Done s →
       record { answer = r; file = file } ≡ isa.run L words s₀
   words-end h r q = (λ t. record { answer = q t; file = file }) ∙ going-ends L words s₀ (stateOf file s) i g h

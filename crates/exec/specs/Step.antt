@@ -18,14 +18,14 @@ pub record Executed (L : ℕ) (op : Op) (file after : List ℕ) (clamped : Bool)
   pub flag : (qc : Bool) → flagAfter op (byteAt L file) qc ≡ (qc || clamped)
 
 -- what a run answers that ends with what is carried
-abbrev pub endedAs : Ending → Carried → Ran
-endedAs e s = record { ending = e; done = s .done; qc = s .qc }
+abbrev pub ranOf : Ending → Carried → Ran
+ranOf e s = record { ending = e; done = s .done; qc = s .qc }
 
 -- what one word's step answers, and the file that it leaves
 abbrev pub steppedOf : Decoded → ℕ → List ℕ → Carried → Stepped
 steppedOf (Decoded.Operation op) L file s = Stepped.Next (record { qc = flagAfter op (byteAt L file) (s .qc); done = s .done + 1 })
-steppedOf Decoded.Reserved L file s = Stepped.Stopped (endedAs Ending.Reserved s)
-steppedOf Decoded.Outside L file s = Stepped.Stopped (endedAs Ending.Outside s)
+steppedOf Decoded.Reserved L file s = Stepped.Stopped (ranOf Ending.Reserved s)
+steppedOf Decoded.Outside L file s = Stepped.Stopped (ranOf Ending.Outside s)
 
 abbrev pub fileAfter : Decoded → ℕ → List ℕ → List ℕ
 fileAfter (Decoded.Operation op) L file = fileOf L (step op (byteAt L file))

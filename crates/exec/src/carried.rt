@@ -36,7 +36,7 @@ impl Carried {
     }
 
     // What a run answers that ends here.
-    pub fn ended(self, ending: Ending) -> Ran
+    pub fn ran(self, ending: Ending) -> Ran
         ensures { λ r. ⌜ r ≡ record { ending = ending; done = self .done; qc = self .qc } ⌝ }
     {
         Ran {

@@ -60,7 +60,7 @@ fn step_word(
 {
     let decoded = decode(word);
     let Decoded::Operation(op) = decoded else {
-        return Stepped::Stopped(carried.ended(refusal(decoded)));
+        return Stepped::Stopped(carried.ran(refusal(decoded)));
     };
     let clamped = step(l, file, starts, op);
     Stepped::Next(carried.counted(clamped))
@@ -87,7 +87,7 @@ fn run_words(l: usize, file: &mut [u8], qc: bool, words: &[u32]) -> Ran
         }
         i += 1;
     }
-    carried.ended(Ending::Done)
+    carried.ran(Ending::Done)
 }
 
 // A refusal before the first word.

@@ -21,7 +21,7 @@ use libc::STDERR_FILENO;
 use libc::STDOUT_FILENO;
 
 // The longest text.
-const LONGEST: usize = 65536;
+const MOST_TEXT: usize = 65536;
 
 // One byte more, which shows that a text is longer.
 const TEXT: usize = 65537;
@@ -75,7 +75,7 @@ fn execute(text: &[u8]) {
     let mut words = [0u32; WORDS];
     let parsed = read_text(text, &mut file, &mut words);
     match parsed {
-        Parsed::Asked(request) => {
+        Parsed::Taken(request) => {
             let before = file;
             let ran = run(request, &mut file, &words);
             tell(request, ran, &before, &file, &words);
@@ -92,7 +92,7 @@ fn main() {
         return;
     }
     let n = filled.length;
-    if LONGEST < n {
+    if MOST_TEXT < n {
         io::write_all(
             STDERR_FILENO,
             b"execute: the input is longer than 65536 bytes\n",

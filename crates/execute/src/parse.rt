@@ -26,7 +26,7 @@ use crate::scan::pair_at;
 use crate::scan::skip_spaces;
 use crate::scan::spells;
 
-const LONGEST: usize = 4096;
+const MOST_BITS: usize = 4096;
 
 // What the lines so far ask for: the length, once it is given, the flag, the bytes of a lane (0: print bytes), and the
 // number of words.
@@ -45,7 +45,7 @@ enum Said {
 }
 
 pub enum Parsed {
-    Asked(Request),
+    Taken(Request),
     Wrong(Fault, u64),
 }
 
@@ -83,7 +83,7 @@ fn read_length(s: &[u8], at: usize, mut request: Request) -> Said {
     if request.given {
         return Said::Wrong(LENGTH_TWICE);
     }
-    let length = number_at(s, at, LONGEST, LENGTH_TOO_LARGE);
+    let length = number_at(s, at, MOST_BITS, LENGTH_TOO_LARGE);
     match length {
         Number::Wrong(fault) => Said::Wrong(fault),
         Number::Value(n, end) => {
@@ -235,7 +235,7 @@ fn next_line(text: &[u8], at: usize) -> usize
 // The request at the text's end. An empty text has one empty line.
 fn whole(request: Request, line: u64) -> Parsed {
     if request.given {
-        return Parsed::Asked(request);
+        return Parsed::Taken(request);
     }
     if line == 0 {
         return Parsed::Wrong(LENGTH_MISSING, 1);

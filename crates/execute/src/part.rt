@@ -1,12 +1,12 @@
 // Registers and lanes: parts of one width.
 
 // Above every place and width here, and low enough that a sum of two fits.
-const LIMIT: usize = 1048576;
+const MOST: usize = 1048576;
 
 fn start_of(n: usize, width: usize) -> usize {
     let mut start = 0;
     for _ in 0..n {
-        start = start % LIMIT + width % LIMIT;
+        start = start % MOST + width % MOST;
     }
     start
 }

@@ -29,9 +29,9 @@ module _ (n : Width) {w : Width} {x : ℤ} (f : SFits w x) where
     unfolding clampTo
     narrow-low = let u = simp (toZ-ofZ f) at t in sym (ap (λ (b : Bool). cond b (negℤ (pos (2 ^ hbits n))) (cond (ltZ (pos (2 ^ hbits n - 1)) x) (pos (2 ^ hbits n - 1)) x)) u) ∙ clamp-is
 
-    pub outside-low : true ≡ clamps (bits n) x
+    pub overflows-low : true ≡ clamps (bits n) x
     unfolding endTo
-    outside-low = let u = simp (toZ-ofZ f) at t in sym (ap (λ (b : Bool). changed (pickEnd b raised (pickEnd (ltZ (pos (2 ^ hbits n - 1)) x) cutDown neither))) u) ∙ end-is
+    overflows-low = let u = simp (toZ-ofZ f) at t in sym (ap (λ (b : Bool). changed (pickEnd b raised (pickEnd (ltZ (pos (2 ^ hbits n - 1)) x) cutDown neither))) u) ∙ end-is
 
   module _ (t : ltZ (toZ w (ofZ w x)) (negℤ (pos (2 ^ hbits n))) ≡ false) where
     past-low : ltZ x (negℤ (pos (2 ^ hbits n))) ≡ false
@@ -44,9 +44,9 @@ module _ (n : Width) {w : Width} {x : ℤ} (f : SFits w x) where
     pub narrow-high : ltZ (pos (2 ^ hbits n - 1)) (toZ w (ofZ w x)) ≡ true → pos (2 ^ hbits n - 1) ≡ clamp (bits n) x
     narrow-high u = let v = simp (toZ-ofZ f) at u in sym (ap (λ (b : Bool). cond b (pos (2 ^ hbits n - 1)) x) v) ∙ sym rest ∙ clamp-is
 
-    pub outside-high : ltZ (pos (2 ^ hbits n - 1)) (toZ w (ofZ w x)) ≡ clamps (bits n) x
+    pub overflows-high : ltZ (pos (2 ^ hbits n - 1)) (toZ w (ofZ w x)) ≡ clamps (bits n) x
     unfolding endTo
-    outside-high =
+    overflows-high =
         ap (ltZ (pos (2 ^ hbits n - 1))) (toZ-ofZ f) ∙ flag (ltZ (pos (2 ^ hbits n - 1)) x)
         ∙ sym (ap (λ (b : Bool). changed (pickEnd b raised (pickEnd (ltZ (pos (2 ^ hbits n - 1)) x) cutDown neither))) past-low) ∙ end-is
 

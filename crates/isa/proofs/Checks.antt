@@ -8,12 +8,12 @@ use mathlib.Core.Bool.{Bool, true, false}
 use native.Mathlib.Omega.{arith}
 use Rattle.isa.specs.declared.types.Op.{Op}
 use Rattle.isa.specs.declared.types.Written.{Written}
-use Rattle.isa.specs.Encode.{Checks, answer, checksOf, encodeOf}
+use Rattle.isa.specs.Encode.{WriteChecks, answer, writeChecks, encodeOf}
 use Rattle.isa.specs.Number.{writtenNumber, writtenWord}
 use Rattle.isa.specs.Returned.{WriteReturns, WritesAs, done, no-size, no-rotation, register-limit, index-limit}
 
 module _ (op : Op) where
-  returned : (s r g i : Bool) → checksOf op .size ≡ s → checksOf op .rotation ≡ r → checksOf op .registers ≡ g → checksOf op .index ≡ i →
+  returned : (s r g i : Bool) → writeChecks op .size ≡ s → writeChecks op .rotation ≡ r → writeChecks op .registers ≡ g → writeChecks op .index ≡ i →
       WriteReturns op (writtenNumber (encodeOf op)) (writtenWord (encodeOf op))
   unfolding encodeOf answer writtenNumber writtenWord
   returned false r g i es er eg ei = rw es (no-size es)
@@ -35,33 +35,33 @@ module _ (op : Op) where
       ((λ e. subst (λ x. WriteReturns op x w) (e .0) (subst (WriteReturns op _) (e .1) (returned _ _ _ _ refl refl refl refl))), answered)
 
 -- every check passes, and the word is w
-pub record Passed (k : Checks) (w : ℕ) : Type 0 where
+pub record ChecksPassed (k : WriteChecks) (w : ℕ) : Type 0 where
   pub size : k .size ≡ true
   pub rotation : k .rotation ≡ true
   pub registers : k .registers ≡ true
   pub index : k .index ≡ true
   pub word : k .word ≡ w
 
-pub passes : (k : Checks) (w : ℕ) → Passed k w → answer k ≡ Written.Word w
+pub passes : (k : WriteChecks) (w : ℕ) → ChecksPassed k w → answer k ≡ Written.Word w
 unfolding answer
 passes k w p = rw (p .size, p .rotation, p .registers, p .index, p .word)
 
 -- 0 is returned where every check passes
-pub passed : (op : Op) (n w : ℕ) → WriteReturns op n w → n ≡ 0 → Passed (checksOf op) w
+pub passed : (op : Op) (n w : ℕ) → WriteReturns op n w → n ≡ 0 → ChecksPassed (writeChecks op) w
 passed op n w (done es er eg ei) z = record { size = es; rotation = er; registers = eg; index = ei; word = refl }
 passed op n w (no-size es) z = absurd (omega arith)
 passed op n w (no-rotation es er) z = absurd (omega arith)
 passed op n w (register-limit es er eg) z = absurd (omega arith)
 passed op n w (index-limit es er eg ei) z = absurd (omega arith)
 
-pub word-exact : (op : Op) (w : ℕ) → (encodeOf op ≡ Written.Word w) ↔ Passed (checksOf op) w
+pub word-exact : (op : Op) (w : ℕ) → (encodeOf op ≡ Written.Word w) ↔ ChecksPassed (writeChecks op) w
 unfolding encodeOf writtenNumber writtenWord
-word-exact op w = ((λ e. passed op 0 w (encode-exact op 0 w .0 (ap writtenNumber e, ap writtenWord e)) refl), passes (checksOf op) w)
+word-exact op w = ((λ e. passed op 0 w (encode-exact op 0 w .0 (ap writtenNumber e, ap writtenWord e)) refl), passes (writeChecks op) w)
 
-abbrev pub withWord : Checks → ℕ → Checks
+abbrev pub withWord : WriteChecks → ℕ → WriteChecks
 withWord k w = record { size = k .size; rotation = k .rotation; registers = k .registers; index = k .index; word = w }
 
-pub same-answer : (k : Checks) {w : ℕ} → (Passed k (k .word) → w ≡ k .word) → answer (withWord k w) ≡ answer k
+pub same-answer : (k : WriteChecks) {w : ℕ} → (ChecksPassed k (k .word) → w ≡ k .word) → answer (withWord k w) ≡ answer k
 unfolding answer
 same-answer k {w} right = by (k .size) (k .rotation) (k .registers) (k .index) refl refl refl refl
   where

@@ -127,7 +127,7 @@ module _ (w : ℕ) where
   of-element : MatchesSome elementRows w → (fieldValue size w ≡ 1) ⊎ (fieldValue size w ≡ 2) → IsOperation
   of-element m s = element-answer IsOperation (λ mk f e. ⊎-elim (λ z. (_, e ∙ ap (λ (n : ℕ). elementOf mk f w (sizeOf n)) z)) (λ z. (_, e ∙ ap (λ (n : ℕ). elementOf mk f w (sizeOf n)) z)) s) m
 
-  pub operation-exact : ((op : Op) → decodeOf w ≡ Decoded.Operation op → AllowedWord w) × (AllowedWord w → IsOperation)
+  pub operation-exact : ((op : Op) → decodeOf w ≡ Decoded.Operation op → AllowedWord w) × (AllowedWord w → (op : Op) × (decodeOf w ≡ Decoded.Operation op))
   operation-exact = (operation-only, ⊎-elim of-sve (λ m. of-element (m .0) (m .1)))
 
   reserved-only : decodeOf w ≡ Decoded.Reserved → ReservedWord w

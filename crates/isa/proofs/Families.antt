@@ -22,10 +22,10 @@ use Rattle.isa.specs.declared.types.Op.{Op}
 use Rattle.isa.specs.declared.types.Decoded.{Decoded}
 use Rattle.isa.specs.Field.{Field, Row, width, fieldValue, fieldValues, rowWord}
 use Rattle.isa.specs.Table.{size, rot1, rot2, ZmAdd, ZmMul, Zdn, Zda, Zn, Rn, Rd, Rm, H, L, M, Q, addRow, mulRow, indexedRow, scalarRow, vectorRow, elementRowFields}
-use Rattle.isa.specs.Decode.{sizeOf, rotationOf, addRotationOf, vectorOf, addOf, mulOf, indexedOf, elementWith, elementOf}
-use Rattle.isa.specs.Encode.{Checks, sizeBits, rotationBits, addRotation, addRotationBits, halfOrSingle, bySize, addChecks, mulChecks, indexedChecks, formWord, elementFieldsOf, elementChecks}
+use Rattle.isa.specs.Decode.{sizeOf, rotationOf, addRotationOf, vectorOf, addOf, mulOf, indexedOf, elementWith, elementOf, elementH, elementS}
+use Rattle.isa.specs.Encode.{WriteChecks, sizeBits, rotationBits, addRotation, addRotationBits, halfOrSingle, bySize, addChecks, mulChecks, indexedChecks, formWord, elementFieldsOf, elementChecks}
 use Rattle.isa.proofs.Fields.{sound, Of, Fit, and-left, and-right, fields-written, of-written}
-use Rattle.isa.proofs.Checks.{Passed}
+use Rattle.isa.proofs.Checks.{ChecksPassed}
 
 -- ---- the numbers of sizes and rotations
 
@@ -121,7 +121,7 @@ abbrev addFrom : List ℕ → Add
 addFrom vs = record { size = sizeOf (getD vs 0 0); rot = addRotationOf (getD vs 1 0); zm = getD vs 2 0; zdn = getD vs 3 0 }
 
 module _ (base w : ℕ) where
-  pub add-back : Of (addRow base) w → Passed (addChecks (addRow base) (addOf w)) w
+  pub add-back : Of (addRow base) w → ChecksPassed (addChecks (addRow base) (addOf w)) w
   add-back e = record {
     size = refl;
     rotation = add-rotation-has (fieldValue rot1 w);
@@ -130,7 +130,7 @@ module _ (base w : ℕ) where
     word = ap (rowWord (addRow base)) (λ k. size-bits-of (fieldValue size w) (omega arith) k ∷ add-rotation-bits-of (fieldValue rot1 w) (omega arith) k ∷ fieldValue ZmAdd w ∷ fieldValue Zdn w ∷ []) ∙ sym e;
   }
 
-  pub add-read : sound (addRow base) ≡ true → (a : Add) → Passed (addChecks (addRow base) a) w → Of (addRow base) w × (addOf w ≡ a)
+  pub add-read : sound (addRow base) ≡ true → (a : Add) → ChecksPassed (addChecks (addRow base) a) w → Of (addRow base) w × (addOf w ≡ a)
   add-read s a p =
       let vs = sizeBits (a .size) ∷ addRotationBits (a .rot) ∷ a .zm ∷ a .zdn ∷ [] in
       let fit : Fit (addRow base .fields) vs =
@@ -146,7 +146,7 @@ abbrev mulFrom : List ℕ → Mul
 mulFrom vs = record { size = sizeOf (getD vs 0 0); rot = rotationOf (getD vs 2 0); zm = getD vs 1 0; zn = getD vs 3 0; zda = getD vs 4 0 }
 
 module _ (base w : ℕ) where
-  pub mul-back : Of (mulRow base) w → Passed (mulChecks (mulRow base) (mulOf w)) w
+  pub mul-back : Of (mulRow base) w → ChecksPassed (mulChecks (mulRow base) (mulOf w)) w
   mul-back e = record {
     size = refl;
     rotation = refl;
@@ -155,7 +155,7 @@ module _ (base w : ℕ) where
     word = ap (rowWord (mulRow base)) (λ k. size-bits-of (fieldValue size w) (omega arith) k ∷ fieldValue ZmMul w ∷ rotation-bits-of (fieldValue rot2 w) (omega arith) k ∷ fieldValue Zn w ∷ fieldValue Zda w ∷ []) ∙ sym e;
   }
 
-  pub mul-read : sound (mulRow base) ≡ true → (a : Mul) → Passed (mulChecks (mulRow base) a) w → Of (mulRow base) w × (mulOf w ≡ a)
+  pub mul-read : sound (mulRow base) ≡ true → (a : Mul) → ChecksPassed (mulChecks (mulRow base) a) w → Of (mulRow base) w × (mulOf w ≡ a)
   mul-read s a p =
       let vs = sizeBits (a .size) ∷ a .zm ∷ rotationBits (a .rot) ∷ a .zn ∷ a .zda ∷ [] in
       let r = registers-in (a .zm) 31 (a .zn) (a .zda) (p .registers) in
@@ -179,7 +179,7 @@ pub record IndexedAt (h s : Row) (z : Size) (index zm : Field) (base : ℕ) : Ty
   pub whole : sound (indexedRow index zm base) ≡ true
 
 module _ (h s : Row) (z : Size) (index zm : Field) (base w : ℕ) (at : IndexedAt h s z index zm base) where
-  pub indexed-back : Of (indexedRow index zm base) w → Passed (indexedChecks h s (indexedOf z index zm w)) w
+  pub indexed-back : Of (indexedRow index zm base) w → ChecksPassed (indexedChecks h s (indexedOf z index zm w)) w
   indexed-back e = record {
     size = at .has;
     rotation = refl;
@@ -190,7 +190,7 @@ module _ (h s : Row) (z : Size) (index zm : Field) (base w : ℕ) (at : IndexedA
   }
 
   -- of an operation of that size, given by its fields
-  pub indexed-read : (a : MulIndexed) → z ≡ a .size → Passed (indexedChecks h s a) w → Of (indexedRow index zm base) w × (indexedOf z index zm w ≡ a)
+  pub indexed-read : (a : MulIndexed) → z ≡ a .size → ChecksPassed (indexedChecks h s a) w → Of (indexedRow index zm base) w × (indexedOf z index zm w ≡ a)
   indexed-read a e p =
       let vs = a .index ∷ a .zm ∷ rotationBits (a .rot) ∷ a .zn ∷ a .zda ∷ [] in
       let r = registers-in (a .zm) (bySize 7 15 (a .size)) (a .zn) (a .zda) (p .registers) in
@@ -207,71 +207,58 @@ module _ (h s : Row) (z : Size) (index zm : Field) (base w : ℕ) (at : IndexedA
 
 -- ---- by element
 
--- the parts of an index and of a register
-index3 : (h l m : ℕ) → h < 2 → l < 2 → m < 2 → ((h * 4 + l * 2 + m) / 2 % 2 ≡ l) × ((h * 4 + l * 2 + m) % 2 ≡ m) × ((h * 4 + l * 2 + m) / 4 ≡ h)
-index3 h l m hh hl hm = (omega arith, omega arith, omega arith)
-
-index2 : (h l : ℕ) → h < 2 → l < 2 → ((h * 2 + l) % 2 ≡ l) × ((h * 2 + l) / 2 ≡ h)
-index2 h l hh hl = (omega arith, omega arith)
-
-register5 : (m r : ℕ) → m < 2 → r < 16 → ((m * 16 + r) / 16 ≡ m) × ((m * 16 + r) % 16 ≡ r)
-register5 m r hm hr = (omega arith, omega arith)
-
--- the operation of an H word and of an S word
-abbrev pub elementH : Form → ℕ → ByElement
-elementH f w = elementWith f Size.H (fieldValue Rm w) (fieldValue H w * 4 + fieldValue L w * 2 + fieldValue M w) w
-
-abbrev pub elementS : Form → ℕ → ByElement
-elementS f w = elementWith f Size.S (fieldValue M w * 16 + fieldValue Rm w) (fieldValue H w * 2 + fieldValue L w) w
+-- the bits of an index H:L:M
+index3 : (h l m i : ℕ) → h < 2 → l < 2 → m < 2 → i ≡ h * 4 + l * 2 + m → (i / 2 % 2 ≡ l) × (i % 2 ≡ m) × (i / 4 ≡ h)
+index3 h l m i hh hl hm e = (omega arith, omega arith, omega arith)
 
 module _ (scalar vector : ℕ) (f : Form) (w : ℕ) (e : w ≡ formWord (scalarRow scalar) (vectorRow vector) f (fieldValues elementRowFields w)) where
-  pub elementH-back : fieldValue size w ≡ 1 → Passed (elementChecks (scalarRow scalar) (vectorRow vector) (elementH f w)) w
+  pub elementH-back : fieldValue size w ≡ 1 → ChecksPassed (elementChecks (scalarRow scalar) (vectorRow vector) (elementH f w)) w
   elementH-back s =
-      let i = index3 (fieldValue H w) (fieldValue L w) (fieldValue M w) (omega arith) (omega arith) (omega arith) in
+      let i = index3 (fieldValue H w) (fieldValue L w) (fieldValue M w) (elementH f w .index) (omega arith) (omega arith) (omega arith) (omega arith) in
       record {
         size = refl;
         rotation = refl;
         registers = and-true _ _ (field-le Rm w 15 refl) (and-true _ _ (field-le Rn w 31 refl) (field-le Rd w 31 refl));
-        index = le-leb (fieldValue H w * 4 + fieldValue L w * 2 + fieldValue M w) 7 (omega arith);
+        index = le-leb (elementH f w .index) 7 (omega arith);
         word = ap (formWord (scalarRow scalar) (vectorRow vector) f) (λ k. sym s k ∷ i .0 k ∷ i .1 k ∷ fieldValue Rm w ∷ i .2 k ∷ fieldValue Rn w ∷ fieldValue Rd w ∷ []) ∙ sym e;
       }
 
-  pub elementS-back : fieldValue size w ≡ 2 → Passed (elementChecks (scalarRow scalar) (vectorRow vector) (elementS f w)) w
+  pub elementS-back : fieldValue size w ≡ 2 → ChecksPassed (elementChecks (scalarRow scalar) (vectorRow vector) (elementS f w)) w
   elementS-back s =
-      let i = index2 (fieldValue H w) (fieldValue L w) (omega arith) (omega arith) in
-      let r = register5 (fieldValue M w) (fieldValue Rm w) (omega arith) (omega arith) in
+      let l : elementS f w .index % 2 ≡ fieldValue L w = omega arith in
+      let m : elementS f w .rm / 16 ≡ fieldValue M w = omega arith in
+      let r : elementS f w .rm % 16 ≡ fieldValue Rm w = omega arith in
+      let h : elementS f w .index / 2 ≡ fieldValue H w = omega arith in
       record {
         size = refl;
         rotation = refl;
-        registers = and-true _ _ (le-leb (fieldValue M w * 16 + fieldValue Rm w) 31 (omega arith)) (and-true _ _ (field-le Rn w 31 refl) (field-le Rd w 31 refl));
-        index = le-leb (fieldValue H w * 2 + fieldValue L w) 3 (omega arith);
-        word = ap (formWord (scalarRow scalar) (vectorRow vector) f) (λ k. sym s k ∷ i .0 k ∷ r .0 k ∷ r .1 k ∷ i .1 k ∷ fieldValue Rn w ∷ fieldValue Rd w ∷ []) ∙ sym e;
+        registers = and-true _ _ (le-leb (elementS f w .rm) 31 (omega arith)) (and-true _ _ (field-le Rn w 31 refl) (field-le Rd w 31 refl));
+        index = le-leb (elementS f w .index) 3 (omega arith);
+        word = ap (formWord (scalarRow scalar) (vectorRow vector) f) (λ k. sym s k ∷ l k ∷ m k ∷ r k ∷ h k ∷ fieldValue Rn w ∷ fieldValue Rd w ∷ []) ∙ sym e;
       }
-
-abbrev elementHFrom : Form → List ℕ → ByElement
-elementHFrom f vs = record { form = f; size = Size.H; rm = getD vs 3 0; index = getD vs 4 0 * 4 + getD vs 1 0 * 2 + getD vs 2 0; rn = getD vs 5 0; rd = getD vs 6 0 }
-
-abbrev elementSFrom : Form → List ℕ → ByElement
-elementSFrom f vs = record { form = f; size = Size.S; rm = getD vs 2 0 * 16 + getD vs 3 0; index = getD vs 4 0 * 2 + getD vs 1 0; rn = getD vs 5 0; rd = getD vs 6 0 }
-
-head-is : (n : ℕ) (ns vs : List ℕ) → vs ≡ n ∷ ns → getD vs 0 0 ≡ n
-head-is n ns vs e = ap (λ (xs : List ℕ). getD xs 0 0) e
 
 module _ (mk : ByElement → Op) (f : Form) (rm index rn rd : ℕ) where
   -- a word with the fields of an operation of size z is that operation
   pub element-is : (z : Size) (w : ℕ) → halfOrSingle z ≡ true → fieldValues elementRowFields w ≡ elementFieldsOf (record { form = f; size = z; rm = rm; index = index; rn = rn; rd = rd }) → elementOf mk f w (sizeOf (fieldValue size w)) ≡ Decoded.Operation (mk (record { form = f; size = z; rm = rm; index = index; rn = rn; rd = rd }))
   element-is Size.B w h e = cc
   element-is Size.H w h e =
-      let i : index / 4 * 4 + index / 2 % 2 * 2 + index % 2 ≡ index = omega arith in
-      ap (λ (n : ℕ). elementOf mk f w (sizeOf n)) (head-is 1 _ (fieldValues elementRowFields w) e)
-      ∙ ap (λ (vs : List ℕ). Decoded.Operation (mk (elementHFrom f vs))) e
-      ∙ (λ k. Decoded.Operation (mk (record { form = f; size = Size.H; rm = rm; index = i k; rn = rn; rd = rd })))
+      let at : (k : ℕ) → getD (fieldValues elementRowFields w) k 0 ≡ getD (elementFieldsOf (record { form = f; size = Size.H; rm = rm; index = index; rn = rn; rd = rd })) k 0 = λ k. ap (λ vs. getD vs k 0) e in
+      let l : fieldValue L w ≡ index / 2 % 2 = at 1 in
+      let m : fieldValue M w ≡ index % 2 = at 2 in
+      let t : fieldValue H w ≡ index / 4 = at 4 in
+      let i : elementH f w .index ≡ index = omega arith in
+      ap (λ (n : ℕ). elementOf mk f w (sizeOf n)) (at 0)
+      ∙ (λ k. Decoded.Operation (mk (record { form = f; size = Size.H; rm = at 3 k; index = i k; rn = at 5 k; rd = at 6 k })))
   element-is Size.S w h e =
-      let i : index / 2 * 2 + index % 2 ≡ index = omega arith in
-      let r : rm / 16 * 16 + rm % 16 ≡ rm = omega arith in
-      ap (λ (n : ℕ). elementOf mk f w (sizeOf n)) (head-is 2 _ (fieldValues elementRowFields w) e)
-      ∙ ap (λ (vs : List ℕ). Decoded.Operation (mk (elementSFrom f vs))) e
-      ∙ (λ k. Decoded.Operation (mk (record { form = f; size = Size.S; rm = r k; index = i k; rn = rn; rd = rd })))
+      let at : (k : ℕ) → getD (fieldValues elementRowFields w) k 0 ≡ getD (elementFieldsOf (record { form = f; size = Size.S; rm = rm; index = index; rn = rn; rd = rd })) k 0 = λ k. ap (λ vs. getD vs k 0) e in
+      let l : fieldValue L w ≡ index % 2 = at 1 in
+      let m : fieldValue M w ≡ rm / 16 = at 2 in
+      let r : fieldValue Rm w ≡ rm % 16 = at 3 in
+      let t : fieldValue H w ≡ index / 2 = at 4 in
+      let i : elementS f w .index ≡ index = omega arith in
+      let s : elementS f w .rm ≡ rm = omega arith in
+      ap (λ (n : ℕ). elementOf mk f w (sizeOf n)) (at 0)
+      ∙ (λ k. Decoded.Operation (mk (record { form = f; size = Size.S; rm = s k; index = i k; rn = at 5 k; rd = at 6 k })))
   element-is Size.D w h e = cc
 
   -- what is written of it fits the fields

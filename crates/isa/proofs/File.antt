@@ -13,7 +13,7 @@ use lib.Arith.{digits-lt, digits-div, digits-mod}
 use lib.Dec.{ltb, leb, eqb}
 use borrow.Author.Tests.{ltb-true, ltb-false, leb-true, eqb-true, le-leb, eq-eqb}
 use Rattle.isa.specs.Register.{Regs}
-use Rattle.isa.specs.File.{legal, tabulate, byteAt, fileOf}
+use Rattle.isa.specs.File.{legal, Legal, tabulate, byteAt, fileOf}
 use Rattle.isa.proofs.Fields.{and-left, and-right}
 
 -- both outcomes of a test
@@ -22,11 +22,6 @@ cases true if-true if-false = if-true refl
 cases false if-true if-false = if-false refl
 
 -- ---- legal lengths
-
-pub record Legal (L : ℕ) : Type 0 where
-  pub whole : L % 128 ≡ 0
-  pub least : 128 ≤ L
-  pub most : L ≤ 2048
 
 pub legal-exact : (L : ℕ) → (legal L ≡ true → Legal L) × (Legal L → legal L ≡ true)
 unfolding legal

@@ -11,8 +11,8 @@ use lib.Dec.{ltb, eqb}
 use borrow.Author.Tests.{ltb-true, lt-ltb, le-ltb, eqb-true, eq-eqb, ne-eqb}
 use Rattle.isa.specs.declared.types.Checked.{Checked}
 use Rattle.isa.specs.declared.types.Asked.{Asked}
-use Rattle.isa.specs.File.{legal, pickChecked, checkOf, pickAsked, registerAfter, registerCheck, registerOf}
-use Rattle.isa.proofs.File.{Legal, legal-exact, cases}
+use Rattle.isa.specs.File.{Legal, legal, pickChecked, checkOf, pickAsked, registerAfter, registerCheck, registerOf}
+use Rattle.isa.proofs.File.{legal-exact, cases}
 
 -- ---- lengths that are not legal
 

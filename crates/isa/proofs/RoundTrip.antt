@@ -18,13 +18,13 @@ use Rattle.isa.specs.declared.types.Op.{Op}
 use Rattle.isa.specs.declared.types.Decoded.{Decoded}
 use Rattle.isa.specs.declared.types.Written.{Written}
 use Rattle.isa.specs.Field.{Row, fieldValue, fieldValues, rowWord}
-use Rattle.isa.specs.Table.{size, Q, i2, i1, ZmH, ZmS, scalarRow, vectorRow, elementRowFields, cadd, sqcadd, cmla, sqrdcmlah, cmlaH, cmlaS, sqrdcmlahH, sqrdcmlahS}
-use Rattle.isa.specs.Decode.{table, decodeOf, addOf, mulOf, indexedOf, elementOf, vectorOf, sizeOf}
-use Rattle.isa.specs.Encode.{encodeOf, checksOf, indexedChecks, elementChecks, elementFieldsOf, formWord, halfOrSingle, bySize}
+use Rattle.isa.specs.Table.{size, Q, i2, i1, ZmH, ZmS, scalarRow, vectorRow, elementRowFields, cadd, sqcadd, cmla, sqrdcmlah, cmlaH, cmlaS, sqrdcmlahH, sqrdcmlahS, sqrdmlahScalar, sqrdmlahVector, sqrdmlshScalar, sqrdmlshVector}
+use Rattle.isa.specs.Decode.{table, decodeOf, addOf, mulOf, indexedOf, elementOf, vectorOf, sizeOf, Reads, elementH, elementS}
+use Rattle.isa.specs.Encode.{encodeOf, writeChecks, indexedChecks, elementChecks, elementFieldsOf, formWord, halfOrSingle, bySize}
 use Rattle.isa.proofs.Fields.{sound, Of, Fit, of-written, of-lt, fields-written}
 use Rattle.isa.proofs.Table.{_⨾_, row-read, by-row}
-use Rattle.isa.proofs.Checks.{Passed, word-exact}
-use Rattle.isa.proofs.Families.{IndexedAt, registers-in, no-such, add-back, add-read, mul-back, mul-read, indexed-back, indexed-read, elementH, elementS, elementH-back, elementS-back, element-is, element-fits}
+use Rattle.isa.proofs.Checks.{ChecksPassed, word-exact}
+use Rattle.isa.proofs.Families.{IndexedAt, registers-in, no-such, add-back, add-read, mul-back, mul-read, indexed-back, indexed-read, elementH-back, elementS-back, element-is, element-fits}
 
 same-op : (a b : Op) → Decoded.Operation a ≡ Decoded.Operation b → a ≡ b
 same-op a b e = cc
@@ -36,25 +36,25 @@ not-outside : (a : Op) → Decoded.Outside ≡ Decoded.Operation a → ⊥
 not-outside a e = let z : _≡_ {A = ℕ} 0 1 = cc in omega arith
 
 -- the indexed rows of CMLA and of SQRDCMLAH at each size
-cmla-at-H : IndexedAt cmlaH cmlaS Size.H i2 ZmH 0x44A0_6000
+cmla-at-H : IndexedAt cmlaH cmlaS Size.H i2 ZmH (cmlaH .base)
 cmla-at-H = record { has = refl; row = refl; limit = refl; last = refl; whole = refl }
 
-cmla-at-S : IndexedAt cmlaH cmlaS Size.S i1 ZmS 0x44E0_6000
+cmla-at-S : IndexedAt cmlaH cmlaS Size.S i1 ZmS (cmlaS .base)
 cmla-at-S = record { has = refl; row = refl; limit = refl; last = refl; whole = refl }
 
-sqrdcmlah-at-H : IndexedAt sqrdcmlahH sqrdcmlahS Size.H i2 ZmH 0x44A0_7000
+sqrdcmlah-at-H : IndexedAt sqrdcmlahH sqrdcmlahS Size.H i2 ZmH (sqrdcmlahH .base)
 sqrdcmlah-at-H = record { has = refl; row = refl; limit = refl; last = refl; whole = refl }
 
-sqrdcmlah-at-S : IndexedAt sqrdcmlahH sqrdcmlahS Size.S i1 ZmS 0x44E0_7000
+sqrdcmlah-at-S : IndexedAt sqrdcmlahH sqrdcmlahS Size.S i1 ZmS (sqrdcmlahS .base)
 sqrdcmlah-at-S = record { has = refl; row = refl; limit = refl; last = refl; whole = refl }
 
 -- ---- from a word to its operation and back
 
 -- an operation that passes every check for the word
-known : (w : ℕ) (a op : Op) → Passed (checksOf a) w → Decoded.Operation a ≡ Decoded.Operation op → encodeOf op ≡ Written.Word w
+known : (w : ℕ) (a op : Op) → ChecksPassed (writeChecks a) w → Decoded.Operation a ≡ Decoded.Operation op → encodeOf op ≡ Written.Word w
 known w a op p e = ap encodeOf (sym (same-op a op e)) ∙ word-exact a w .1 p
 
-module _ (mk : ByElement → Op) (scalar vector : ℕ) (means : (a : ByElement) → checksOf (mk a) ≡ elementChecks (scalarRow scalar) (vectorRow vector) a) where
+module _ (mk : ByElement → Op) (scalar vector : ℕ) (means : (a : ByElement) → writeChecks (mk a) ≡ elementChecks (scalarRow scalar) (vectorRow vector) a) where
   element-back : (f : Form) (w n : ℕ) → fieldValue size w ≡ n → w ≡ formWord (scalarRow scalar) (vectorRow vector) f (fieldValues elementRowFields w) → (op : Op) → elementOf mk f w (sizeOf n) ≡ Decoded.Operation op → encodeOf op ≡ Written.Word w
   element-back f w zero s e op k = absurd (not-reserved op k)
   element-back f w (suc zero) s e op k = known w (mk (elementH f w)) op (rw means (elementH-back scalar vector f w e s)) k
@@ -68,37 +68,33 @@ vector-form scalar vector (suc zero) vs h = refl
 vector-form scalar vector (suc (suc q)) vs h = absurd (omega arith)
 
 pub decode-encode : (w : ℕ) (op : Op) → decodeOf w ≡ Decoded.Operation op → encodeOf op ≡ Written.Word w
-unfolding decodeOf checksOf
+unfolding decodeOf writeChecks
 decode-encode w op =
-    let mlah = element-back Op.Sqrdmlah 0x7F00_D000 0x2F00_D000 (λ a. refl) in
-    let mlsh = element-back Op.Sqrdmlsh 0x7F00_F000 0x2F00_F000 (λ a. refl) in
+    let mlah = element-back Op.Sqrdmlah (sqrdmlahScalar .base) (sqrdmlahVector .base) (λ a. refl) in
+    let mlsh = element-back Op.Sqrdmlsh (sqrdmlshScalar .base) (sqrdmlshVector .base) (λ a. refl) in
     let vector : (s v : ℕ) → Of (vectorRow v) w → w ≡ formWord (scalarRow s) (vectorRow v) (vectorOf (fieldValue Q w)) (fieldValues elementRowFields w) = λ s v e. e ∙ vector-form s v (fieldValue Q w) (fieldValues elementRowFields w) (omega arith) in
     by-row table w (Decoded.Operation op) (encodeOf op ≡ Written.Word w)
-    ((λ e k. known w (Op.Cadd (addOf w)) op (add-back 0x4500_D800 w e) k) ⨾
-    (λ e k. known w (Op.Sqcadd (addOf w)) op (add-back 0x4501_D800 w e) k) ⨾
-    (λ e k. known w (Op.Cmla (mulOf w)) op (mul-back 0x4400_2000 w e) k) ⨾
-    (λ e k. known w (Op.Sqrdcmlah (mulOf w)) op (mul-back 0x4400_3000 w e) k) ⨾
-    (λ e k. known w (Op.CmlaIndexed (indexedOf Size.H i2 ZmH w)) op (indexed-back cmlaH cmlaS Size.H i2 ZmH 0x44A0_6000 w cmla-at-H e) k) ⨾
-    (λ e k. known w (Op.CmlaIndexed (indexedOf Size.S i1 ZmS w)) op (indexed-back cmlaH cmlaS Size.S i1 ZmS 0x44E0_6000 w cmla-at-S e) k) ⨾
-    (λ e k. known w (Op.SqrdcmlahIndexed (indexedOf Size.H i2 ZmH w)) op (indexed-back sqrdcmlahH sqrdcmlahS Size.H i2 ZmH 0x44A0_7000 w sqrdcmlah-at-H e) k) ⨾
-    (λ e k. known w (Op.SqrdcmlahIndexed (indexedOf Size.S i1 ZmS w)) op (indexed-back sqrdcmlahH sqrdcmlahS Size.S i1 ZmS 0x44E0_7000 w sqrdcmlah-at-S e) k) ⨾
-    (λ e k. mlah (vectorOf (fieldValue Q w)) w (fieldValue size w) refl (vector 0x7F00_D000 0x2F00_D000 e) op k) ⨾
+    ((λ e k. known w (Op.Cadd (addOf w)) op (add-back (cadd .base) w e) k) ⨾
+    (λ e k. known w (Op.Sqcadd (addOf w)) op (add-back (sqcadd .base) w e) k) ⨾
+    (λ e k. known w (Op.Cmla (mulOf w)) op (mul-back (cmla .base) w e) k) ⨾
+    (λ e k. known w (Op.Sqrdcmlah (mulOf w)) op (mul-back (sqrdcmlah .base) w e) k) ⨾
+    (λ e k. known w (Op.CmlaIndexed (indexedOf Size.H i2 ZmH w)) op (indexed-back cmlaH cmlaS Size.H i2 ZmH (cmlaH .base) w cmla-at-H e) k) ⨾
+    (λ e k. known w (Op.CmlaIndexed (indexedOf Size.S i1 ZmS w)) op (indexed-back cmlaH cmlaS Size.S i1 ZmS (cmlaS .base) w cmla-at-S e) k) ⨾
+    (λ e k. known w (Op.SqrdcmlahIndexed (indexedOf Size.H i2 ZmH w)) op (indexed-back sqrdcmlahH sqrdcmlahS Size.H i2 ZmH (sqrdcmlahH .base) w sqrdcmlah-at-H e) k) ⨾
+    (λ e k. known w (Op.SqrdcmlahIndexed (indexedOf Size.S i1 ZmS w)) op (indexed-back sqrdcmlahH sqrdcmlahS Size.S i1 ZmS (sqrdcmlahS .base) w sqrdcmlah-at-S e) k) ⨾
+    (λ e k. mlah (vectorOf (fieldValue Q w)) w (fieldValue size w) refl (vector (sqrdmlahScalar .base) (sqrdmlahVector .base) e) op k) ⨾
     (λ e k. mlah Form.Scalar w (fieldValue size w) refl e op k) ⨾
-    (λ e k. mlsh (vectorOf (fieldValue Q w)) w (fieldValue size w) refl (vector 0x7F00_F000 0x2F00_F000 e) op k) ⨾
+    (λ e k. mlsh (vectorOf (fieldValue Q w)) w (fieldValue size w) refl (vector (sqrdmlshScalar .base) (sqrdmlshVector .base) e) op k) ⨾
     (λ e k. mlsh Form.Scalar w (fieldValue size w) refl e op k) ⨾ tt)
     (λ none k. absurd (not-outside op k))
 
 -- ---- from an operation to its word and back
 
--- the word is one of 32 bits, and decodes to the operation
-abbrev pub Reads : ℕ → Op → Type 0
-Reads w op = (w < 2 ^ 32) × (decodeOf w ≡ Decoded.Operation op)
-
 module _ (mk : MulIndexed → Op) (h s : Row) (baseH baseS w : ℕ)
     (at-H : IndexedAt h s Size.H i2 ZmH baseH) (at-S : IndexedAt h s Size.S i1 ZmS baseS)
     (read-H : Of h w → decodeOf w ≡ Decoded.Operation (mk (indexedOf Size.H i2 ZmH w)))
     (read-S : Of s w → decodeOf w ≡ Decoded.Operation (mk (indexedOf Size.S i1 ZmS w)))
-    (a : MulIndexed) (p : Passed (indexedChecks h s a) w) where
+    (a : MulIndexed) (p : ChecksPassed (indexedChecks h s a) w) where
   indexed-reads : (z : Size) → z ≡ a .size → Reads w (mk a)
   indexed-reads Size.B e = absurd (no-such (ap halfOrSingle e ∙ p .size))
   indexed-reads Size.H e =
@@ -115,7 +111,7 @@ module _ (mk : ByElement → Op) (scalar vector w : ℕ)
     (sound-scalar : sound (scalarRow scalar) ≡ true) (sound-vector : sound (vectorRow vector) ≡ true)
     (read-scalar : Of (scalarRow scalar) w → decodeOf w ≡ elementOf mk Form.Scalar w (sizeOf (fieldValue size w)))
     (read-vector : Of (vectorRow vector) w → decodeOf w ≡ elementOf mk (vectorOf (fieldValue Q w)) w (sizeOf (fieldValue size w)))
-    (a : ByElement) (p : Passed (elementChecks (scalarRow scalar) (vectorRow vector) a) w) where
+    (a : ByElement) (p : ChecksPassed (elementChecks (scalarRow scalar) (vectorRow vector) a) w) where
   fits : Fit elementRowFields (elementFieldsOf a)
   fits =
       let r = registers-in (a .rm) (bySize 15 31 (a .size)) (a .rn) (a .rd) (p .registers) in
@@ -145,24 +141,24 @@ module _ (mk : ByElement → Op) (scalar vector w : ℕ)
   element-reads Form.Vector64 form word = vector-reads 0 (omega arith) word form
   element-reads Form.Vector128 form word = vector-reads 1 (omega arith) word form
 
-passed-reads : (w : ℕ) (op : Op) → Passed (checksOf op) w → Reads w op
-unfolding checksOf
+passed-reads : (w : ℕ) (op : Op) → ChecksPassed (writeChecks op) w → Reads w op
+unfolding writeChecks
 passed-reads w (Op.Cadd a) p =
-    let r = add-read 0x4500_D800 w refl a p in
+    let r = add-read (cadd .base) w refl a p in
     (of-lt cadd refl w (r .0), row-read w 0 (r .0) ∙ ap (λ (x : Add). Decoded.Operation (Op.Cadd x)) (r .1))
 passed-reads w (Op.Sqcadd a) p =
-    let r = add-read 0x4501_D800 w refl a p in
+    let r = add-read (sqcadd .base) w refl a p in
     (of-lt sqcadd refl w (r .0), row-read w 1 (r .0) ∙ ap (λ (x : Add). Decoded.Operation (Op.Sqcadd x)) (r .1))
 passed-reads w (Op.Cmla a) p =
-    let r = mul-read 0x4400_2000 w refl a p in
+    let r = mul-read (cmla .base) w refl a p in
     (of-lt cmla refl w (r .0), row-read w 2 (r .0) ∙ ap (λ (x : Mul). Decoded.Operation (Op.Cmla x)) (r .1))
 passed-reads w (Op.Sqrdcmlah a) p =
-    let r = mul-read 0x4400_3000 w refl a p in
+    let r = mul-read (sqrdcmlah .base) w refl a p in
     (of-lt sqrdcmlah refl w (r .0), row-read w 3 (r .0) ∙ ap (λ (x : Mul). Decoded.Operation (Op.Sqrdcmlah x)) (r .1))
-passed-reads w (Op.CmlaIndexed a) p = indexed-reads Op.CmlaIndexed cmlaH cmlaS 0x44A0_6000 0x44E0_6000 w cmla-at-H cmla-at-S (row-read w 4) (row-read w 5) a p (a .size) refl
-passed-reads w (Op.SqrdcmlahIndexed a) p = indexed-reads Op.SqrdcmlahIndexed sqrdcmlahH sqrdcmlahS 0x44A0_7000 0x44E0_7000 w sqrdcmlah-at-H sqrdcmlah-at-S (row-read w 6) (row-read w 7) a p (a .size) refl
-passed-reads w (Op.Sqrdmlah a) p = element-reads Op.Sqrdmlah 0x7F00_D000 0x2F00_D000 w refl refl (row-read w 9) (row-read w 8) a p (a .form) refl (p .word)
-passed-reads w (Op.Sqrdmlsh a) p = element-reads Op.Sqrdmlsh 0x7F00_F000 0x2F00_F000 w refl refl (row-read w 11) (row-read w 10) a p (a .form) refl (p .word)
+passed-reads w (Op.CmlaIndexed a) p = indexed-reads Op.CmlaIndexed cmlaH cmlaS (cmlaH .base) (cmlaS .base) w cmla-at-H cmla-at-S (row-read w 4) (row-read w 5) a p (a .size) refl
+passed-reads w (Op.SqrdcmlahIndexed a) p = indexed-reads Op.SqrdcmlahIndexed sqrdcmlahH sqrdcmlahS (sqrdcmlahH .base) (sqrdcmlahS .base) w sqrdcmlah-at-H sqrdcmlah-at-S (row-read w 6) (row-read w 7) a p (a .size) refl
+passed-reads w (Op.Sqrdmlah a) p = element-reads Op.Sqrdmlah (sqrdmlahScalar .base) (sqrdmlahVector .base) w refl refl (row-read w 9) (row-read w 8) a p (a .form) refl (p .word)
+passed-reads w (Op.Sqrdmlsh a) p = element-reads Op.Sqrdmlsh (sqrdmlshScalar .base) (sqrdmlshVector .base) w refl refl (row-read w 11) (row-read w 10) a p (a .form) refl (p .word)
 
 pub encode-decode : (op : Op) (w : ℕ) → encodeOf op ≡ Written.Word w → Reads w op
 encode-decode op w h = passed-reads w op (word-exact op w .0 h)

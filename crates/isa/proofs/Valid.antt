@@ -15,10 +15,10 @@ use Rattle.isa.specs.declared.types.Decoded.{Decoded}
 use Rattle.isa.specs.Field.{Row}
 use Rattle.isa.specs.Table.{cadd, sqcadd, cmla, sqrdcmlah, cmlaH, cmlaS, sqrdcmlahH, sqrdcmlahS, sqrdmlahScalar, sqrdmlahVector, sqrdmlshScalar, sqrdmlshVector}
 use Rattle.isa.specs.Decode.{decodeOf}
-use Rattle.isa.specs.Encode.{checksOf, addChecks, mulChecks, indexedChecks, elementChecks, bySize}
+use Rattle.isa.specs.Encode.{writeChecks, addChecks, mulChecks, indexedChecks, elementChecks, bySize}
 use Rattle.isa.specs.Valid.{Valid, AddValid, MulValid, IndexedValid, ElementValid}
 use Rattle.isa.proofs.Fields.{and-left, and-right}
-use Rattle.isa.proofs.Checks.{Passed, word-exact}
+use Rattle.isa.proofs.Checks.{ChecksPassed, word-exact}
 use Rattle.isa.proofs.Families.{registers-in}
 use Rattle.isa.proofs.RoundTrip.{decode-encode}
 
@@ -34,31 +34,31 @@ index-lt index Size.H h s e = let l = leb-true index h e in omega arith
 index-lt index Size.S h s e = let l = leb-true index s e in omega arith
 index-lt index Size.D h s e = let l = leb-true index s e in omega arith
 
-pub add-valid : (row : Row) (a : Add) (w : ℕ) → Passed (addChecks row a) w → AddValid a
+pub add-valid : (row : Row) (a : Add) (w : ℕ) → ChecksPassed (addChecks row a) w → AddValid a
 add-valid row a w p = record {
   rot = p .rotation;
   zm = let l = leb-true (a .zm) 31 (and-left (leb (a .zm) 31) (leb (a .zdn) 31) (p .registers)) in omega arith;
   zdn = let l = leb-true (a .zdn) 31 (and-right (leb (a .zm) 31) (leb (a .zdn) 31) (p .registers)) in omega arith;
 }
 
-pub mul-valid : (row : Row) (a : Mul) (w : ℕ) → Passed (mulChecks row a) w → MulValid a
+pub mul-valid : (row : Row) (a : Mul) (w : ℕ) → ChecksPassed (mulChecks row a) w → MulValid a
 mul-valid row a w p =
     let r = registers-in (a .zm) 31 (a .zn) (a .zda) (p .registers) in
     record { zm = (let l = leb-true (a .zm) 31 (r .second-in) in omega arith); zn = r .n-in; zda = r .d-in }
 
-pub indexed-valid : (h s : Row) (a : MulIndexed) (w : ℕ) → Passed (indexedChecks h s a) w → IndexedValid a
+pub indexed-valid : (h s : Row) (a : MulIndexed) (w : ℕ) → ChecksPassed (indexedChecks h s a) w → IndexedValid a
 indexed-valid h s a w p =
     let r = registers-in (a .zm) (bySize 7 15 (a .size)) (a .zn) (a .zda) (p .registers) in
     record { size = p .size; zm = second-lt (a .zm) (a .size) 7 15 (omega arith) (omega arith) (r .second-in); zn = r .n-in; zda = r .d-in; index = index-lt (a .index) (a .size) 3 1 (p .index) }
 
-pub element-valid : (scalar vector : Row) (a : ByElement) (w : ℕ) → Passed (elementChecks scalar vector a) w → ElementValid a
+pub element-valid : (scalar vector : Row) (a : ByElement) (w : ℕ) → ChecksPassed (elementChecks scalar vector a) w → ElementValid a
 element-valid scalar vector a w p =
     let r = registers-in (a .rm) (bySize 15 31 (a .size)) (a .rn) (a .rd) (p .registers) in
     record { size = p .size; rm = second-lt (a .rm) (a .size) 15 31 (omega arith) (omega arith) (r .second-in); rn = r .n-in; rd = r .d-in; index = index-lt (a .index) (a .size) 7 3 (p .index) }
 
 -- an operation that can be written is valid
-pub passed-valid : (op : Op) (w : ℕ) → Passed (checksOf op) w → Valid op
-unfolding checksOf
+pub passed-valid : (op : Op) (w : ℕ) → ChecksPassed (writeChecks op) w → Valid op
+unfolding writeChecks
 passed-valid (Op.Cadd a) w p = add-valid cadd a w p
 passed-valid (Op.Sqcadd a) w p = add-valid sqcadd a w p
 passed-valid (Op.Cmla a) w p = mul-valid cmla a w p

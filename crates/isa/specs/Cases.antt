@@ -40,8 +40,8 @@ holding a b c d zero (suc j) = pattern 8 b
 holding a b c d (suc r) zero = pattern 8 c
 holding a b c d (suc r) (suc j) = pattern 8 d
 
-abbrev pub minus : ℕ → ℤ
-minus n = negℤ (pos n)
+abbrev pub negative : ℕ → ℤ
+negative n = negℤ (pos n)
 
 abbrev pub cases : List Case
 cases =
@@ -64,16 +64,16 @@ cases =
     decodes 0x4420_7000 Decoded.Outside ∷
     decodes 0x0000_0000 Decoded.Outside ∷
     -- P8
-    leaves (Op.Sqcadd (record { size = Size.B; rot = Rotation.R90; zm = 1; zdn = 0 })) (holding (pos 0) (pos 0) (minus 128) (minus 128)) (pos 127) (minus 128) ∷
-    leaves (Op.Cadd (record { size = Size.B; rot = Rotation.R90; zm = 1; zdn = 0 })) (holding (pos 0) (pos 0) (minus 128) (minus 128)) (minus 128) (minus 128) ∷
+    leaves (Op.Sqcadd (record { size = Size.B; rot = Rotation.R90; zm = 1; zdn = 0 })) (holding (pos 0) (pos 0) (negative 128) (negative 128)) (pos 127) (negative 128) ∷
+    leaves (Op.Cadd (record { size = Size.B; rot = Rotation.R90; zm = 1; zdn = 0 })) (holding (pos 0) (pos 0) (negative 128) (negative 128)) (negative 128) (negative 128) ∷
     -- P9
-    rounds 16 adds (minus 1) (minus 32768) (minus 32768) (pos 32767) neither ∷
-    rounds 16 adds (pos 0) (minus 32768) (minus 32768) (pos 32767) cutDown ∷
+    rounds 16 adds (negative 1) (negative 32768) (negative 32768) (pos 32767) neither ∷
+    rounds 16 adds (pos 0) (negative 32768) (negative 32768) (pos 32767) cutDown ∷
     -- P10
     rounds 16 adds (pos 5) (pos 128) (pos 128) (pos 6) neither ∷
     rounds 16 subtracts (pos 5) (pos 128) (pos 128) (pos 5) neither ∷
     -- P11
-    rounds 64 subtracts (pos 0) (minus (2 ^ 63)) (minus (2 ^ 63)) (minus (2 ^ 63)) neither ∷
-    rounds 64 subtracts (minus 1) (minus (2 ^ 63)) (minus (2 ^ 63)) (minus (2 ^ 63)) raised ∷
+    rounds 64 subtracts (pos 0) (negative (2 ^ 63)) (negative (2 ^ 63)) (negative (2 ^ 63)) neither ∷
+    rounds 64 subtracts (negative 1) (negative (2 ^ 63)) (negative (2 ^ 63)) (negative (2 ^ 63)) raised ∷
     -- P12
-    leaves (Op.Sqcadd (record { size = Size.B; rot = Rotation.R90; zm = 0; zdn = 0 })) (holding (pos 1) (pos 2) (pos 1) (pos 2)) (minus 1) (pos 3) ∷ []
+    leaves (Op.Sqcadd (record { size = Size.B; rot = Rotation.R90; zm = 0; zdn = 0 })) (holding (pos 1) (pos 2) (pos 1) (pos 2)) (negative 1) (pos 3) ∷ []

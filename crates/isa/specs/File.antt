@@ -1,5 +1,6 @@
 -- The register file of a vector length L: 4 x L bytes, registers 0 to 31 in order, L/8 bytes each.
-use Prim.Native.Nat.{ℕ, zero, suc, _+_, _*_, _/_, _%_}
+use mathlib.Core.Path.{_≡_}
+use Prim.Native.Nat.{ℕ, zero, suc, _+_, _*_, _/_, _%_, _≤_}
 use mathlib.Core.List.{List, [], _∷_}
 use mathlib.Core.Bool.{Bool, true, false, _&&_}
 use lib.Dec.{leb, ltb, eqb}
@@ -11,6 +12,12 @@ use Rattle.isa.specs.declared.types.Asked.{Asked}
 -- a vector length in bits: a multiple of 128, from 128 to 2,048
 unfoldable pub legal : ℕ → Bool
 legal L = eqb (L % 128) 0 && (leb 128 L && leb L 2048)
+
+-- the same, said of numbers
+pub record Legal (L : ℕ) : Type 0 where
+  pub whole : L % 128 ≡ 0
+  pub least : 128 ≤ L
+  pub most : L ≤ 2048
 
 -- f 0, f 1, .., n numbers
 unfoldable pub tabulate : ℕ → (ℕ → ℕ) → List ℕ

@@ -8,7 +8,7 @@ use mathlib.Core.List.{List, [], _∷_}
 use lib.ListN.{length, getD, take, drop}
 use Rattle.isa.specs.Allowed.{AllowedWord, ReservedWord, OutsideWord}
 use Rattle.isa.specs.Decode.{decodeOf}
-use Rattle.isa.specs.Encode.{checksOf, encodeOf}
+use Rattle.isa.specs.Encode.{writeChecks, encodeOf}
 use Rattle.isa.specs.File.{legal, checkOf, registerCheck, registerOf}
 use Rattle.isa.specs.Run.{State, start, run, outcomeOf}
 use Rattle.isa.specs.Number.{decodedNumber, decodedOperation, writtenNumber, writtenWord, checkedNumber, askedNumber, runNumber, runLeft}
@@ -72,12 +72,12 @@ AsksAs L file r n part = (askedNumber (registerCheck L (length file) r) ≡ n) �
 -- ---- writing: 7, 8, 9, 10; the number, and the word
 
 pub data WriteReturns (op : Op) : ℕ → ℕ → Type 0 where
-  done : checksOf op .size ≡ true → checksOf op .rotation ≡ true → checksOf op .registers ≡ true → checksOf op .index ≡ true →
-      WriteReturns op 0 (checksOf op .word)
-  no-size : checksOf op .size ≡ false → WriteReturns op 7 0
-  no-rotation : checksOf op .size ≡ true → checksOf op .rotation ≡ false → WriteReturns op 8 0
-  register-limit : checksOf op .size ≡ true → checksOf op .rotation ≡ true → checksOf op .registers ≡ false → WriteReturns op 9 0
-  index-limit : checksOf op .size ≡ true → checksOf op .rotation ≡ true → checksOf op .registers ≡ true → checksOf op .index ≡ false →
+  done : writeChecks op .size ≡ true → writeChecks op .rotation ≡ true → writeChecks op .registers ≡ true → writeChecks op .index ≡ true →
+      WriteReturns op 0 (writeChecks op .word)
+  no-size : writeChecks op .size ≡ false → WriteReturns op 7 0
+  no-rotation : writeChecks op .size ≡ true → writeChecks op .rotation ≡ false → WriteReturns op 8 0
+  register-limit : writeChecks op .size ≡ true → writeChecks op .rotation ≡ true → writeChecks op .registers ≡ false → WriteReturns op 9 0
+  index-limit : writeChecks op .size ≡ true → writeChecks op .rotation ≡ true → writeChecks op .registers ≡ true → writeChecks op .index ≡ false →
       WriteReturns op 10 0
 
 abbrev pub WritesAs : Op → ℕ → ℕ → Type 0

@@ -3,7 +3,7 @@
 ghost use Prim.Native.Nat.{_%_};
 ghost use Rattle.isa.specs.Meaning.{adds, subtracts};
 ghost use Rattle.isa.specs.Segment.{Elements};
-use crate::segment::any_outside;
+use crate::segment::any_overflow;
 use crate::segment::bytes;
 use crate::segment::lanes;
 use crate::segment::narrowed;
@@ -20,7 +20,7 @@ pub fn scalar(c: [u8; 16], n: [u8; 16], m: [u8; 16], index: usize, minus: bool) 
     let s = sums(lanes(c), lanes(n), z[index % 8], 1, minus);
     Saturated {
         bytes: bytes(narrowed(s)),
-        clamped: any_outside(s),
+        clamped: any_overflow(s),
     }
 }
 
@@ -32,7 +32,7 @@ pub fn vector64(c: [u8; 16], n: [u8; 16], m: [u8; 16], index: usize, minus: bool
     let s = sums(lanes(c), lanes(n), z[index % 8], 4, minus);
     Saturated {
         bytes: bytes(narrowed(s)),
-        clamped: any_outside(s),
+        clamped: any_overflow(s),
     }
 }
 
@@ -44,7 +44,7 @@ pub fn vector128(c: [u8; 16], n: [u8; 16], m: [u8; 16], index: usize, minus: boo
     let s = sums(lanes(c), lanes(n), z[index % 8], 8, minus);
     Saturated {
         bytes: bytes(narrowed(s)),
-        clamped: any_outside(s),
+        clamped: any_overflow(s),
     }
 }
 

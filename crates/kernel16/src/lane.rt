@@ -21,7 +21,7 @@ pub fn narrow(x: i32) -> i16
 }
 
 // Whether x has no place in 16 bits.
-pub fn outside(x: i32) -> bool
+pub fn overflows(x: i32) -> bool
     ensures { λ r. ⌜ r ≡ clamps 16 x ⌝ }
 {
     if x < -32768 { true } else { 32767 < x }

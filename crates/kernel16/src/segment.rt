@@ -9,7 +9,7 @@ ghost use Rattle.isa.specs.Stage.{LanesOf, Taken, Multiplied, Added, BytesOfLan
 use crate::lane::add;
 use crate::lane::mla;
 use crate::lane::narrow;
-use crate::lane::outside;
+use crate::lane::overflows;
 use crate::lane::round;
 use crate::lane::rounding;
 use crate::lane::sat;
@@ -143,12 +143,12 @@ pub fn narrowed(s: [i32; 8]) -> [i16; 8]
 }
 
 // Whether some lane has no place in 16 bits.
-pub fn any_outside(s: [i32; 8]) -> bool
+pub fn any_overflow(s: [i32; 8]) -> bool
     ensures { λ r. ⌜ r ≡ anyBelow 8 (λ e. clamps 16 (lane s e)) ⌝ }
 {
     let mut any = false;
     for e in 0..8 {
-        any = if outside(s[e]) { true } else { any };
+        any = if overflows(s[e]) { true } else { any };
     }
     any
 }

@@ -21,7 +21,7 @@ pub fn narrow(x: i64) -> i32
 }
 
 // Whether x has no place in 32 bits.
-pub fn outside(x: i64) -> bool
+pub fn overflows(x: i64) -> bool
     ensures { λ r. ⌜ r ≡ clamps 32 x ⌝ }
 {
     if x < -2147483648 {
@@ -38,7 +38,7 @@ fn clamp_toward(x: i64, toward: i64) -> i32
     ensures { λ r. ⌜ r ≡ clamp 32 x ⌝ }
 {
     let end = if toward < 0 { -2147483648 } else { 2147483647 };
-    if outside(x) { end } else { x as i32 }
+    if overflows(x) { end } else { x as i32 }
 }
 
 // x modulo 2^32.

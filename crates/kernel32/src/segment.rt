@@ -9,7 +9,7 @@ ghost use Rattle.isa.specs.Stage.{LanesOf, Taken, Multiplied, Added, BytesOfLan
 use crate::lane::add;
 use crate::lane::mla;
 use crate::lane::narrow;
-use crate::lane::outside;
+use crate::lane::overflows;
 use crate::lane::round;
 use crate::lane::rounding;
 use crate::lane::sat;
@@ -147,12 +147,12 @@ pub fn narrowed(s: [i64; 4]) -> [i32; 4]
 }
 
 // Whether some lane has no place in 32 bits.
-pub fn any_outside(s: [i64; 4]) -> bool
+pub fn any_overflow(s: [i64; 4]) -> bool
     ensures { λ r. ⌜ r ≡ anyBelow 4 (λ e. clamps 32 (lane s e)) ⌝ }
 {
     let mut any = false;
     for e in 0..4 {
-        any = if outside(s[e]) { true } else { any };
+        any = if overflows(s[e]) { true } else { any };
     }
     any
 }

@@ -1,5 +1,5 @@
 use mathlib.Core.Path.{ap, _∙_}
-use Rattle.capi.specs.Encode.{namedOf, namedNumber}
+use Rattle.capi.specs.Encode.{namedOf, namedPacked}
 use Rattle.capi.proofs.Named.{encode-refused, encode-eight}
 use borrow.Author.Needs.{needs}
 use Rattle.capi.proofs.encode.kob_encode.Statement.{statement}
@@ -12,7 +12,7 @@ returns-2 : tie.Need-returns-2
 returns-2 c =
     let eight = c .before .before .before in
     c .packed-named .ensures
-    ∙ ap namedNumber (c .before .named-by .ensures ∙ ap namedOf (c .before .before .read-numbers .ensures))
+    ∙ ap namedPacked (c .before .named-by .ensures ∙ ap namedOf (c .before .before .read-numbers .ensures))
     ∙ encode-eight (eight .before .before .args .fields .now) (eight .if1 .left)
 
 pub kob-encode-spec : {M : Type 1} → statement M

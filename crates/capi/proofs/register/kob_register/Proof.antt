@@ -5,7 +5,7 @@ use Rattle.isa.specs.declared.types.Asked.{Asked}
 use Rattle.isa.specs.File.{registerCheck}
 use Rattle.isa.proofs.FileChecks.{register-ends}
 use Rattle.regfile.proofs.Refused.{refused}
-use Rattle.capi.specs.Register.{partNumber}
+use Rattle.capi.specs.Register.{partPacked}
 use Rattle.capi.proofs.Place.{register-refused, register-place, register-passed}
 use borrow.Author.Needs.{needs}
 use Rattle.capi.proofs.register.kob_register.Statement.{statement}
@@ -35,7 +35,7 @@ returns-2 : tie.Need-returns-2
 returns-2 c =
     let a = c .before .before .before .before .before .args in
     c .packed-part .ensures
-    ∙ ap (λ (start : ℕ). partNumber start (a .l / 8)) (c .before .offset .ensures)
+    ∙ ap (λ (start : ℕ). partPacked start (a .l / 8)) (c .before .offset .ensures)
     ∙ register-passed (a .l) (a .size) (a .n) (passed (c .before .before))
 
 pub kob-register-spec : {M : Type 1} → statement M

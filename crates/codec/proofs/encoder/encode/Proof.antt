@@ -1,5 +1,5 @@
 use mathlib.Core.Path.{_≡_, sym, ap, _∙_}
-use Rattle.isa.specs.Encode.{encodeOf, checksOf}
+use Rattle.isa.specs.Encode.{encodeOf, writeChecks}
 use borrow.Author.Needs.{needs}
 use Rattle.codec.proofs.encoder.encode.Statement.{statement}
 use Rattle.codec.proofs.encoder.encode.Tie as tie
@@ -53,35 +53,35 @@ encode-element-requires-2 : tie.Need-encode-element-requires-2
 encode-element-requires-2 c κs = search needs
 
 returns : tie.Need-returns
-unfolding encodeOf checksOf
+unfolding encodeOf writeChecks
 returns c = c .encode-add .ensures ∙ sym (ap encodeOf (c .before .before .op .given .1))
 
 returns-2 : tie.Need-returns-2
-unfolding encodeOf checksOf
+unfolding encodeOf writeChecks
 returns-2 c = c .encode-add2 .ensures ∙ sym (ap encodeOf (c .before .before .op2 .given .1))
 
 returns-3 : tie.Need-returns-3
-unfolding encodeOf checksOf
+unfolding encodeOf writeChecks
 returns-3 c = c .encode-mul .ensures ∙ sym (ap encodeOf (c .before .before .op3 .given .1))
 
 returns-4 : tie.Need-returns-4
-unfolding encodeOf checksOf
+unfolding encodeOf writeChecks
 returns-4 c = c .encode-mul2 .ensures ∙ sym (ap encodeOf (c .before .before .op4 .given .1))
 
 returns-5 : tie.Need-returns-5
-unfolding encodeOf checksOf
+unfolding encodeOf writeChecks
 returns-5 c = c .encode-indexed .ensures ∙ sym (ap encodeOf (c .before .before .op5 .given .1))
 
 returns-6 : tie.Need-returns-6
-unfolding encodeOf checksOf
+unfolding encodeOf writeChecks
 returns-6 c = c .encode-indexed2 .ensures ∙ sym (ap encodeOf (c .before .before .op6 .given .1))
 
 returns-7 : tie.Need-returns-7
-unfolding encodeOf checksOf
+unfolding encodeOf writeChecks
 returns-7 c = c .encode-element .ensures ∙ sym (ap encodeOf (c .before .before .op7 .given .1))
 
 returns-8 : tie.Need-returns-8
-unfolding encodeOf checksOf
+unfolding encodeOf writeChecks
 returns-8 c = c .encode-element2 .ensures ∙ sym (ap encodeOf (c .before .before .op8 .given .1))
 
 pub encode-spec : {M : Type 1} → statement M

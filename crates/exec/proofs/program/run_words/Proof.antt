@@ -82,8 +82,8 @@ loop-again c =
     words-on (a .l) (a .words .now) (start (a .file .now) (a .qc)) (h .loop .file) (h .loop .carried) (h .loop .i) (h .loop .inv)
     (k .before .before .before .before .loop-test .taken) (c .before .stepped .given .0 .0) (k .step-word .result) _ (k .step-word .ensures) (c .before .stepped .given .1)
 
-ended-requires : tie.Need-ended-requires Inv-loop μ-loop
-ended-requires c κs = search needs
+ran-requires : tie.Need-ran-requires Inv-loop μ-loop
+ran-requires c κs = search needs
 
 same-length-2 : tie.Need-same-length-2 Inv-loop μ-loop
 same-length-2 c =
@@ -96,7 +96,7 @@ returns-2 c =
     let h = c .before .before in
     let s = h .before .before .before .before .before in
     let a = s .args in
-    words-end (a .l) (a .words .now) (start (a .file .now) (a .qc)) (h .loop .file) (h .loop .carried) (h .loop .i) (h .loop .inv) (c .before .loop-test .left) (c .ended .result) (c .ended .ensures)
+    words-end (a .l) (a .words .now) (start (a .file .now) (a .qc)) (h .loop .file) (h .loop .carried) (h .loop .i) (h .loop .inv) (c .before .loop-test .left) (c .ran .result) (c .ran .ensures)
 
 pub run-words-spec : {M : Type 1} → statement M
 run-words-spec =
@@ -117,6 +117,6 @@ run-words-spec =
     add-i
     loop-less
     loop-again
-    ended-requires
+    ran-requires
     same-length-2
     returns-2)

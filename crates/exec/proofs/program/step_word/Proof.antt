@@ -17,16 +17,16 @@ enum-known-decoded c = search needs
 refusal-requires : tie.Need-refusal-requires
 refusal-requires c κs = search needs
 
-ended-requires : tie.Need-ended-requires
-ended-requires c κs = search needs
+ran-requires : tie.Need-ran-requires
+ran-requires c κs = search needs
 
 returns : tie.Need-returns
 returns c =
     let f = c .before in
     let d = f .before .before in
     let a = d .before .before .args in
-    refused-word (a .l) (a .file .now) (a .carried) (d .decode .result) (decodeOf (a .word)) (f .refusal .result) (c .ended .result) (f .before .match .keys2)
-    (d .decode .ensures) (f .refusal .ensures) (c .ended .ensures)
+    refused-word (a .l) (a .file .now) (a .carried) (d .decode .result) (decodeOf (a .word)) (f .refusal .result) (c .ran .result) (f .before .match .keys2)
+    (d .decode .ensures) (f .refusal .ensures) (c .ran .ensures)
 
 step-requires : tie.Need-step-requires
 step-requires c κs =
@@ -57,7 +57,7 @@ step-word-spec =
     decode-requires
     enum-known-decoded
     refusal-requires
-    ended-requires
+    ran-requires
     returns
     step-requires
     counted-requires

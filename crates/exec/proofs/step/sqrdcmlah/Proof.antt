@@ -7,7 +7,7 @@ use lib.ListN.{getD}
 use Rattle.isa.specs.declared.types.Op.{Op}
 use Rattle.isa.specs.Meaning.{advancedSimd}
 use Rattle.isa.specs.Sources.{mulRule, destOf, firstOf, secondOf, made}
-use Rattle.exec.proofs.Operation.{Found, found, swept-executed}
+use Rattle.exec.proofs.Operation.{RegistersAt, found, swept-executed}
 use Rattle.exec.proofs.step.sqrdcmlah.Statement.{statement}
 use Rattle.exec.proofs.step.sqrdcmlah.Tie as tie
 
@@ -45,7 +45,7 @@ there : (q : tie.After-m) →
     let d = n .before .before in
     let s = d .before .before in
     let a = s .args in
-    Found (a .l) (a .file .now) (Op.Sqrdcmlah (a .a)) (getD (a .starts .now) (d .wide .result) 0) (getD (a .starts .now) (n .wide2 .result) 0) (getD (a .starts .now) (m .wide3 .result) 0)
+    RegistersAt (a .l) (a .file .now) (Op.Sqrdcmlah (a .a)) (getD (a .starts .now) (d .wide .result) 0) (getD (a .starts .now) (n .wide2 .result) 0) (getD (a .starts .now) (m .wide3 .result) 0)
 unfolding destOf firstOf secondOf
 there q =
     let m = q .before in

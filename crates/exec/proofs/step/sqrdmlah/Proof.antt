@@ -9,7 +9,7 @@ use Rattle.isa.specs.declared.types.Size.the-variants.{H, S}
 use Rattle.isa.specs.Meaning.{advancedSimd, adds}
 use Rattle.isa.specs.Encode.{bySize}
 use Rattle.isa.specs.Sources.{destOf, firstOf, secondOf, made, clampsIn}
-use Rattle.exec.proofs.Operation.{Found, found, touched-at, touched-executed, not-b, not-d}
+use Rattle.exec.proofs.Operation.{RegistersAt, found, touched-at, touched-executed, not-b, not-d}
 use Rattle.exec.proofs.step.sqrdmlah.Statement.{statement}
 use Rattle.exec.proofs.step.sqrdmlah.Tie as tie
 
@@ -50,7 +50,7 @@ there : (q : tie.After-m) →
     let d = n .before .before in
     let s = d .before .before in
     let a = s .args in
-    Found (a .l) (a .file .now) (Op.Sqrdmlah (a .a)) (getD (a .starts .now) (d .wide .result) 0) (getD (a .starts .now) (n .wide2 .result) 0) (getD (a .starts .now) (m .wide3 .result) 0)
+    RegistersAt (a .l) (a .file .now) (Op.Sqrdmlah (a .a)) (getD (a .starts .now) (d .wide .result) 0) (getD (a .starts .now) (n .wide2 .result) 0) (getD (a .starts .now) (m .wide3 .result) 0)
 unfolding destOf firstOf secondOf
 there q =
     let m = q .before in

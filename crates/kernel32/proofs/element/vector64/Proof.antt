@@ -38,8 +38,8 @@ narrowed-requires c κs = search needs
 bytes-requires : tie.Need-bytes-requires
 bytes-requires c κs = search needs
 
-any-outside-requires : tie.Need-any-outside-requires
-any-outside-requires c κs = search needs
+any-overflow-requires : tie.Need-any-overflow-requires
+any-overflow-requires c κs = search needs
 
 returns : tie.Need-returns
 unfolding laneCount pairs bits bytes
@@ -51,7 +51,7 @@ returns c =
     let z = x .before in
     let a = z .before .args in
     elements Vector64 S (a .index % 4) (a .minus) (omega arith) refl (x .lanes2 .ensures) (y .lanes3 .ensures) (z .lanes .ensures) (kept w32 _ (s .before .sums-arg .given))
-    (s .sums .ensures) (b .before .narrowed .ensures) (b .bytes .ensures) (c .any-outside .ensures)
+    (s .sums .ensures) (b .before .narrowed .ensures) (b .bytes .ensures) (c .any-overflow .ensures)
 
 pub vector64-spec : {M : Type 1} → statement M
 vector64-spec =
@@ -65,5 +65,5 @@ vector64-spec =
     sums-requires
     narrowed-requires
     bytes-requires
-    any-outside-requires
+    any-overflow-requires
     returns)
