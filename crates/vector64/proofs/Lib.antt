@@ -1,1 +1,1 @@
-mod Test
+mod LoopTest

@@ -9,7 +9,7 @@ use Rattle.isa.specs.declared.types.Size.the-variants.{D}
 use Rattle.isa.specs.Sources.{addRule}
 use Rattle.regfile.proofs.Sweep.{Sweeping, InFile, sweep-starts, sweep-room, sweep-on, sweep-ends}
 use Rattle.isa.proofs.File.{legal-exact}
-use Rattle.vector64.proofs.Test.{in-both, past-one}
+use Rattle.vector64.proofs.LoopTest.{in-both, past-one}
 use Rattle.vector64.proofs.cadd.cadd.Statement.{statement}
 use Rattle.vector64.proofs.cadd.cadd.Tie as tie
 

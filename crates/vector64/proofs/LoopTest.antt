@@ -6,17 +6,14 @@ use Prim.Native.Nat.{ℕ, _<_, _≤_}
 use native.Mathlib.Omega.{arith}
 use lib.Dec.{ltb}
 use borrow.Author.Tests.{ltb-true, ltb-false, lt-ltb}
-
-both-true : (a b : Bool) → (a && b) ≡ true → a ≡ true
-both-true true b e = refl
-both-true false b e = e
+use Rattle.isa.proofs.Fields.{and-left}
 
 other-false : (a b : Bool) → (a && b) ≡ false → b ≡ true → a ≡ false
 other-false true b e t = search (e, t)
 other-false false b e t = refl
 
 pub in-both : (q w n : ℕ) → (ltb q w && ltb q n) ≡ true → q < w
-in-both q w n e = ltb-true q w (both-true (ltb q w) (ltb q n) e)
+in-both q w n e = ltb-true q w (and-left (ltb q w) (ltb q n) e)
 
 pub past-one : (q w n : ℕ) → (ltb q w && ltb q n) ≡ false → q ≤ 256 → 256 < n → w ≤ q
 past-one q w n e h k = ltb-false q w (other-false (ltb q w) (ltb q n) e (lt-ltb q n (omega arith)))
