@@ -271,9 +271,10 @@ LANES(d, int64_t, uint64_t, __int128)
         indexed_turned_##X(d, n, m, bytes, index, true, turns);                                    \
     }                                                                                              \
                                                                                                    \
-    /* The new 16 bytes are made beside the old, for the lanes not written become zero. */         \
+    /* The new 16 bytes are made beside the old, for the lanes not written become zero, as does    \
+     * the register above them. */                                                                 \
     static inline bool by_element_##X(uint8_t *d, const uint8_t *n, const uint8_t *m,              \
-                                      size_t lanes, unsigned index, bool minus)                    \
+                                      size_t bytes, size_t lanes, unsigned index, bool minus)      \
     {                                                                                              \
         T made[16 / sizeof(T)] = {0}, x = get_##X(m, index);                                       \
         bool clamped = false;                                                                      \
@@ -283,16 +284,17 @@ LANES(d, int64_t, uint64_t, __int128)
             clamped |= made[e] != exact;                                                           \
         }                                                                                          \
         memcpy(d, made, 16);                                                                       \
+        memset(d + 16, 0, bytes - 16);                                                             \
         return clamped;                                                                            \
     }                                                                                              \
                                                                                                    \
-    static bool sqrdml_##X(uint8_t *d, const uint8_t *n, const uint8_t *m, unsigned form,          \
-                           unsigned index, bool minus)                                             \
+    static bool sqrdml_##X(uint8_t *d, const uint8_t *n, const uint8_t *m, size_t bytes,           \
+                           unsigned form, unsigned index, bool minus)                              \
     {                                                                                              \
         switch (form) {                                                                            \
-        case SCALAR: return by_element_##X(d, n, m, 1, index, minus);                              \
-        case VECTOR_64: return by_element_##X(d, n, m, 8 / sizeof(T), index, minus);               \
-        default: return by_element_##X(d, n, m, 16 / sizeof(T), index, minus);                     \
+        case SCALAR: return by_element_##X(d, n, m, bytes, 1, index, minus);                       \
+        case VECTOR_64: return by_element_##X(d, n, m, bytes, 8 / sizeof(T), index, minus);        \
+        default: return by_element_##X(d, n, m, bytes, 16 / sizeof(T), index, minus);              \
         }                                                                                          \
     }
 
@@ -328,10 +330,10 @@ static bool step(const struct op *op, uint8_t *file, size_t bytes, bool qc)
     case 4 * CMLA_I + S: cmla_indexed_s(d, n, m, bytes, op->index, op->turns); break;
     case 4 * SQRDCMLAH_I + H: sqrdcmlah_indexed_h(d, n, m, bytes, op->index, op->turns); break;
     case 4 * SQRDCMLAH_I + S: sqrdcmlah_indexed_s(d, n, m, bytes, op->index, op->turns); break;
-    case 4 * SQRDMLAH + H: qc |= sqrdml_h(d, n, m, op->form, op->index, false); break;
-    case 4 * SQRDMLAH + S: qc |= sqrdml_s(d, n, m, op->form, op->index, false); break;
-    case 4 * SQRDMLSH + H: qc |= sqrdml_h(d, n, m, op->form, op->index, true); break;
-    case 4 * SQRDMLSH + S: qc |= sqrdml_s(d, n, m, op->form, op->index, true); break;
+    case 4 * SQRDMLAH + H: qc |= sqrdml_h(d, n, m, bytes, op->form, op->index, false); break;
+    case 4 * SQRDMLAH + S: qc |= sqrdml_s(d, n, m, bytes, op->form, op->index, false); break;
+    case 4 * SQRDMLSH + H: qc |= sqrdml_h(d, n, m, bytes, op->form, op->index, true); break;
+    case 4 * SQRDMLSH + S: qc |= sqrdml_s(d, n, m, bytes, op->form, op->index, true); break;
     }
     return qc;
 }

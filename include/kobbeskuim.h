@@ -30,7 +30,8 @@ extern "C" {
 #define KOB_LENGTH_MAX 2048
 
 /* The register file: registers 0 to 31 in order, L/8 bytes each, little-endian,
- * element 0 first; 4 x L bytes together. Register Vn is the first 16 bytes of Zn. */
+ * element 0 first; 4 x L bytes together. Register Vn is the first 16 bytes of Zn;
+ * SQRDMLAH and SQRDMLSH write Vn, and that makes the rest of Zn zero. */
 #define KOB_REGISTERS 32
 #define KOB_FILE_SIZE(l) ((size_t)4 * (l))
 #define KOB_FILE_SIZE_MAX 8192

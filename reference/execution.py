@@ -54,18 +54,13 @@ def registers(length, file):
 # ---- the step
 
 
-def above(destination):
-    """The bytes above 16 that an Advanced SIMD family leaves: they stay."""
-    return destination[16:]
-
-
 def step(op, length, file, flag):
     """The file and the flag that the operation leaves."""
     held = registers(length, file)
     c, n, m = held[op.destination], held[op.first], held[op.second]
     if op.family in ELEMENT:
         low, clamped = lanes.by_element(op, c[:16], n[:16], m[:16])
-        held[op.destination] = low + above(c)
+        held[op.destination] = low.ljust(len(c), b"\0")  # V is written, and the rest of Z becomes zero
         flag = flag or clamped
     else:
         held[op.destination] = lanes.vector(op, c, n, m)

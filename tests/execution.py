@@ -48,7 +48,7 @@ def runs():
             c_bytes, n_bytes, m_bytes = (filled(x, bits, width) for x in (c, n, m))
             left = filled(wanted, bits, width)
             if op.family in model.ELEMENT:
-                left = left[:16] + c_bytes[16:]  # the bytes above 16 stay
+                left = left[:16] + bytes(width - 16)  # the bytes above 16 are cleared
             for flag in (False, True):
                 ran = execution.run(length, c_bytes + n_bytes + m_bytes + rest, flag, [word])
                 due = execution.Ran(0, 1, flag or sets, left + n_bytes + m_bytes + rest)
@@ -57,17 +57,31 @@ def runs():
 
 
 def scalar():
-    """The scalar form writes one lane, and makes the rest of the first 16 bytes zero."""
+    """The scalar form writes one lane, and makes the rest of the register zero."""
     op = Operation(SQRDMLAH, H, SCALAR, 0, 0, 1, 2, 0)
     file = bytes([255]) * 32 + lanes.data_of([128] * 32, 16) + bytes(29 * 32)
-    wanted = bytes(16) + bytes([255]) * 16  # -1 + 0.5, rounded, is 0
+    wanted = bytes(32)  # -1 + 0.5, rounded, is 0
     if execution.run(256, file, False, [model.encode(op)[1]]).file[:32] != wanted:
         yield "the scalar form's lanes"
 
 
+def cleared():
+    """The destination may be the register that the element comes from: it is read first. Its neighbours stay."""
+    op = Operation(SQRDMLSH, H, 2, 0, 1, 0, 1, 7)
+    one, two, three = ([x] * 8 for x in (128, 256, 3))
+    for length in execution.LENGTHS:
+        rest = bytes([255]) * (length // 8 - 16)
+        parts = [lanes.data_of(x, 16) for x in (one, two, three)]
+        file = b"".join(part + rest for part in parts) + bytes([255]) * (29 * length // 8)
+        made = lanes.data_of([255] * 8, 16)  # 256 - 128 x 256 / 32768
+        wanted = file[: length // 8] + made + bytes(length // 8 - 16) + file[length // 4 :]
+        if execution.run(length, file, False, [model.encode(op)[1]]).file != wanted:
+            yield f"into the register of the element at {length}"
+
+
 def main():
     faults = model.self_check() + lanes.self_check() + execution.self_check()
-    faults += [*runs(), *scalar()]
+    faults += [*runs(), *scalar(), *cleared()]
     for fault in faults:
         print(f"execution: {fault}")
     print(f"execution: {len(faults)} faults")

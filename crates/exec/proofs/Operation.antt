@@ -1,6 +1,6 @@
 -- One operation on the lent file. `found`: its registers by the table of their starts. `swept-executed`: an SVE2 operation.
--- `touched-executed`: one by element. `turns`: the rotations of CADD and SQCADD. `by-limit`: an index below its limit, as a loop takes it. `swept-at`,
--- `touched-at`, `worked-as`: what was matched. `not-b`, `not-d`: sizes that are not handed over. Assumes nothing.
+-- `touched-executed`: one by element. `turns`: the rotations of CADD and SQCADD. `swept-at`,
+-- `touched-whole`, `worked-as`: what was matched. `not-b`, `not-d`: sizes that are not handed over. Assumes nothing.
 use mathlib.Core.Path.{_≡_, refl, sym, ap, subst, _∙_}
 use Prim.Native.Nat.{ℕ, _+_, _*_, _/_, _%_, _<_, _≤_}
 use native.Mathlib.Omega.{arith}
@@ -13,8 +13,8 @@ use Rattle.isa.specs.declared.types.Size.the-variants.{B, D}
 use Rattle.isa.specs.declared.types.Rotation.{Rotation}
 use Rattle.isa.specs.declared.types.Op.{Op}
 use Rattle.isa.specs.Register.{Bytes}
-use Rattle.isa.specs.declared.types.ByElement.{ByElement}
-use Rattle.isa.specs.Meaning.{laneBytes, laneClamps, advancedSimd}
+use Rattle.isa.specs.declared.types.Form.{Form}
+use Rattle.isa.specs.Meaning.{written, laneBytes, laneClamps, advancedSimd}
 use Rattle.isa.specs.File.{byteAt}
 use Rattle.isa.specs.Valid.{Valid}
 use Rattle.isa.specs.Encode.{addRotation, halfOrSingle}
@@ -22,12 +22,12 @@ use Rattle.isa.specs.Stage.{crossed}
 use Rattle.isa.specs.Sources.{Rule, destOf, firstOf, secondOf, made, clampsIn}
 use Rattle.isa.proofs.File.{legal-exact}
 use Rattle.isa.proofs.Local.{flag-kept}
-use Rattle.isa.proofs.Progress.{simd-stored}
-use Rattle.isa.proofs.Fits.{valid-fits}
-use Rattle.isa.proofs.Sources.{writes-dest, flag-made, valid-below, or-false}
+use Rattle.isa.proofs.Progress.{register-stored}
+use Rattle.isa.proofs.Sources.{written-made, writes-dest, flag-made, valid-below, or-false}
+use Rattle.regfile.specs.Bytes.{Cleared}
 use Rattle.regfile.specs.Place.{Starts}
 use Rattle.regfile.specs.Sweep.{Held, Placed, Lying, By, Swept, Within, bytesFrom, Touched}
-use Rattle.regfile.proofs.Sweep.{made-written}
+use Rattle.regfile.proofs.Sweep.{touched-as, touched-above}
 use Rattle.exec.specs.Step.{Executed}
 
 -- ---- where the registers are
@@ -84,26 +84,27 @@ module _ (L : ℕ) (op : Op) (valid : Valid op) (f : List ℕ) (held : Held L f)
     flag = λ qc. flag-kept op sve (byteAt L f) qc ∙ or-false qc;
   }
 
-  pub touched-executed : advancedSimd op ≡ true → (after : List ℕ) (clamped : Bool) → Touched (made op) (clampsIn op) f d n m after clamped → Executed L op f after clamped
-  touched-executed simd after clamped t =
-      let dest : d ≡ destOf op * (L / 8) + 16 * 0 = omega (arith, p .dest) in
-      let first : n ≡ firstOf op * (L / 8) + 16 * 0 = omega (arith, p .first) in
-      let second : m ≡ secondOf op * (L / 8) + 16 * 0 = omega (arith, p .second) in
-      record {
-        left =
-            simd-stored L (held .ok) op simd (valid-fits op valid) (destOf op) (writes-dest op) f after (t .sized ∙ held .sized)
-            (λ i h. ap (λ x. getD after x 0) (omega (arith, dest)) ∙ t .inside i h ∙ made-written L op 0 f d n m dest first second i)
-            (λ x h. t .low x (omega (arith, dest)))
-            (λ x h. t .high x (omega (arith, dest)));
-        flag = λ qc. flag-made op (byteAt L f) qc ∙ ap (λ b. qc || b) (sym (t .flag ∙ clamps-first));
-      }
+  pub touched-executed : (after : List ℕ) (clamped : Bool) → Touched (L / 8) (made op) (clampsIn op) f d n m after clamped → Executed L op f after clamped
+  touched-executed after clamped t = record {
+    left = register-stored L (held .ok) op (destOf op) (writes-dest op) f after (t .sized ∙ held .sized) stored
+        (λ x h. t .low x (omega (arith, p .dest)))
+        (λ x h. t .high x (omega (arith, p .dest)));
+    flag = λ qc. flag-made op (byteAt L f) qc ∙ ap (λ b. qc || b) (sym (t .flag ∙ (λ i. clampsIn op (c i) (a i) (b i))));
+  }
     where
-      clamps-first : clampsIn op (bytesFrom f d) (bytesFrom f n) (bytesFrom f m) ≡ clampsIn op (byteAt L f (destOf op)) (byteAt L f (firstOf op)) (byteAt L f (secondOf op))
-      clamps-first =
-          let c = from-start L f (destOf op) d (p .dest) in
-          let a = from-start L f (firstOf op) n (p .first) in
-          let b = from-start L f (secondOf op) m (p .second) in
-          λ t. clampsIn op (c t) (a t) (b t)
+      c : bytesFrom f d ≡ byteAt L f (destOf op)
+      c = from-start L f (destOf op) d (p .dest)
+
+      a : bytesFrom f n ≡ byteAt L f (firstOf op)
+      a = from-start L f (firstOf op) n (p .first)
+
+      b : bytesFrom f m ≡ byteAt L f (secondOf op)
+      b = from-start L f (secondOf op) m (p .second)
+
+      stored : (j : ℕ) → j < L / 8 → getD after (destOf op * (L / 8) + j) 0 ≡ written op (byteAt L f) (destOf op) j
+      stored j h =
+          ap (λ x. getD after x 0) (omega (arith, p .dest)) ∙ t .inside j h ∙ (λ i. made op (c i) (a i) (b i) j)
+          ∙ sym (ap (λ g. g j) (written-made op (byteAt L f) (destOf op)))
 
 -- ---- what a valid operation has
 
@@ -131,14 +132,14 @@ pub swept-at : {A : Type 0} (L : ℕ) (rule : A → Rule) {x known : A} (f : Lis
     Swept L (rule known) f d n m after → Swept L (rule x) f d n m after
 swept-at L rule f d n m after e s = subst (λ x. Swept L (rule x) f d n m after) (sym e) s
 
--- the same for a form by element: its size, and its index below the limit of that size
-pub touched-at : (a : ByElement) (minus : Bool) (known : Size) (limit w : ℕ) (f : List ℕ) (d n m : ℕ) (after : List ℕ) (r : Bool) →
-    a .size ≡ known → a .index < limit → w ≡ a .index →
-    Touched (laneBytes (a .form) known (w % limit) minus) (laneClamps (a .form) known (w % limit) minus) f d n m after r →
-    Touched (laneBytes (a .form) (a .size) (a .index) minus) (laneClamps (a .form) (a .size) (a .index) minus) f d n m after r
-touched-at a minus known limit w f d n m after r e h same t =
-    subst (λ z. Touched (laneBytes (a .form) z (a .index) minus) (laneClamps (a .form) z (a .index) minus) f d n m after r) (sym e)
-    (subst (λ i. Touched (laneBytes (a .form) known i minus) (laneClamps (a .form) known i minus) f d n m after r) (by-limit (a .index) limit w h same) t)
+-- a form by element with the index that the code has: its first segment stored, and the others cleared
+pub touched-whole : (f : Form) (z : Size) (minus : Bool) {index known : ℕ} (L : ℕ) (file : List ℕ) (d n m : ℕ) (mid after : List ℕ) (r : Bool) → Held L file → known ≡ index →
+    Touched 16 (laneBytes f z known minus) (laneClamps f z known minus) file d n m mid r → Cleared mid (d + 16) (d + L / 8) after →
+    Touched (L / 8) (laneBytes f z index minus) (laneClamps f z index minus) file d n m after r
+touched-whole f z minus {index} L file d n m mid after r held e t cleared =
+    let k = legal-exact L .0 (held .ok) in
+    touched-above f z index minus (L / 8) (omega (arith, k .whole, k .least)) (laneClamps f z index minus) file d n m mid after r
+    (touched-as 16 (λ i. laneBytes f z i minus) (λ i. laneClamps f z i minus) file d n m mid r (sym e) t) cleared
 
 pub worked-as : (L : ℕ) {op known : Op} (f after : List ℕ) (r : Bool) → op ≡ known → Executed L known f after r → Executed L op f after r
 worked-as L f after r e w = subst (λ o. Executed L o f after r) (sym e) w

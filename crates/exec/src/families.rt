@@ -2,10 +2,13 @@
 ghost use mathlib.Core.Path.{_≡_};
 ghost use mathlib.Core.Bool.{true, false};
 ghost use Prim.Native.Nat.{_<_};
+ghost use lib.ListN.{length};
 ghost use Rattle.isa.specs.Encode.{halfOrSingle, bySize};
+ghost use Rattle.isa.specs.Meaning.{laneBytes, laneClamps, adds, subtracts};
 ghost use Rattle.isa.specs.Sources.{addRule, mulRule, indexedRule};
 ghost use Rattle.isa.specs.Stage.{crossed};
-ghost use Rattle.regfile.specs.Sweep.{Lying, Swept};
+ghost use Rattle.regfile.specs.Sweep.{Lying, Swept, Within, Touched};
+use isa::types::Form;
 use isa::types::Rotation;
 use isa::types::Size;
 
@@ -102,6 +105,50 @@ fn sqrdcmlah_indexed(
         Size::H => vector16::sqrdcmlah_indexed::sqrdcmlah_indexed(l, file, d, n, m, index, rot),
         Size::S => vector32::sqrdcmlah_indexed::sqrdcmlah_indexed(l, file, d, n, m, index, rot),
         Size::D => (),
+    }
+}
+
+// The first segment. Only H and S have a form by element, and no other size is handed over.
+pub fn sqrdmlah(
+    size: Size,
+    form: Form,
+    index: usize,
+    file: &mut [u8],
+    d: usize,
+    n: usize,
+    m: usize,
+) -> bool
+    requires { ⌜ Within (length (now file)) d n m ⌝ }
+    requires { ⌜ (halfOrSingle size ≡ true) × (index < bySize 8 4 size) ⌝ }
+    ensures { λ r. ⌜ Touched 16 (laneBytes form size index adds) (laneClamps form size index adds) (now (file .entry)) d n m (now (file .exit)) r ⌝ }
+{
+    match size {
+        Size::B => false,
+        Size::H => vector16::element::elements(file, d, n, m, index, form, false),
+        Size::S => vector32::element::elements(file, d, n, m, index, form, false),
+        Size::D => false,
+    }
+}
+
+// The same.
+pub fn sqrdmlsh(
+    size: Size,
+    form: Form,
+    index: usize,
+    file: &mut [u8],
+    d: usize,
+    n: usize,
+    m: usize,
+) -> bool
+    requires { ⌜ Within (length (now file)) d n m ⌝ }
+    requires { ⌜ (halfOrSingle size ≡ true) × (index < bySize 8 4 size) ⌝ }
+    ensures { λ r. ⌜ Touched 16 (laneBytes form size index subtracts) (laneClamps form size index subtracts) (now (file .entry)) d n m (now (file .exit)) r ⌝ }
+{
+    match size {
+        Size::B => false,
+        Size::H => vector16::element::elements(file, d, n, m, index, form, true),
+        Size::S => vector32::element::elements(file, d, n, m, index, form, true),
+        Size::D => false,
     }
 }
 

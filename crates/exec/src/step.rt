@@ -13,7 +13,7 @@ use isa::types::ByElement;
 use isa::types::Mul;
 use isa::types::MulIndexed;
 use isa::types::Op;
-use isa::types::Size;
+use regfile::segment::clear_above;
 
 fn wide(x: u32) -> usize
     ensures { λ r. ⌜ r ≡ x ⌝ }
@@ -111,7 +111,7 @@ fn sqrdcmlah_indexed(l: usize, file: &mut [u8], starts: &[usize; 32], a: MulInde
     false
 }
 
-// Only H and S have a form by element, and no other size is handed over.
+// All sources are read before anything is stored, and nothing above the first 16 bytes is read.
 fn sqrdmlah(l: usize, file: &mut [u8], starts: &[usize; 32], a: ByElement) -> bool
     requires { ⌜ Held l (now file) ⌝ }
     requires { ⌜ Starts (l / 8) (now starts) ⌝ }
@@ -123,13 +123,9 @@ fn sqrdmlah(l: usize, file: &mut [u8], starts: &[usize; 32], a: ByElement) -> bo
     let d = starts[wide(a.rd)];
     let n = starts[wide(a.rn)];
     let m = starts[wide(a.rm)];
-    let index = wide(a.index);
-    match size {
-        Size::B => false,
-        Size::H => vector16::element::elements(file, d, n, m, index, form, false),
-        Size::S => vector32::element::elements(file, d, n, m, index, form, false),
-        Size::D => false,
-    }
+    let clamped = crate::families::sqrdmlah(size, form, wide(a.index), file, d, n, m);
+    clear_above(l, file, d);
+    clamped
 }
 
 // The same.
@@ -144,13 +140,9 @@ fn sqrdmlsh(l: usize, file: &mut [u8], starts: &[usize; 32], a: ByElement) -> bo
     let d = starts[wide(a.rd)];
     let n = starts[wide(a.rn)];
     let m = starts[wide(a.rm)];
-    let index = wide(a.index);
-    match size {
-        Size::B => false,
-        Size::H => vector16::element::elements(file, d, n, m, index, form, true),
-        Size::S => vector32::element::elements(file, d, n, m, index, form, true),
-        Size::D => false,
-    }
+    let clamped = crate::families::sqrdmlsh(size, form, wide(a.index), file, d, n, m);
+    clear_above(l, file, d);
+    clamped
 }
 
 // An operation that a word decoded to, on a checked file: `step_word` has both. Answers whether it sets the flag.

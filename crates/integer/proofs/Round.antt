@@ -3,14 +3,14 @@
 use mathlib.Core.Path.{_≡_, refl, sym, ap, _∙_}
 use mathlib.Core.Bool.{Bool, true, false, cond}
 use Prim.Native.Nat.{ℕ, zero, suc, _+_, _-_, _*_, _/_, _^_, _≤_, _<_}
-use native.Mathlib.Nat.{mul-add-div-right, le-refl, add-mul, mul-assoc, add-sub-cancel}
+use native.Mathlib.Nat.{mul-add-div-right, le-refl, add-mul, mul-assoc, add-sub-cancel, div-mul-le-self, lt-of-le-of-lt, lt-of-mul-lt-mul-right}
 use native.Mathlib.Omega.{arith}
-use lib.IntN.{ℤ, pos, negsuc, negℤ, _+ℤ_, _*ℤ_, *ℤ-comm, +ℤ-assoc, +ℤ-idl}
+use lib.IntN.{ℤ, pos, negsuc, negℤ, natAbs, _+ℤ_, _*ℤ_, *ℤ-comm, +ℤ-assoc, +ℤ-idl}
 use borrow.Author.Tests.{ltb-false, le-ltb}
 use lib.Pow.{pow-add, pow-pos}
 use lib.Signed.{ltZ, shrZ, mag, natAbs-le}
 use Rattle.integer.specs.Number.{rounded, clampTo, clamp, endTo, endOf, neither, signedBy}
-use Rattle.integer.proofs.Difference.{diff, diffs, diff-eq, diff-scale, diff-add, all, shr-double, diff-mag, diff-shr, all-multiple, diff-range, mag-abs, product-abs}
+use Rattle.integer.proofs.Difference.{diff, diffs, diff-eq, diff-scale, diff-add, all, sub-ind, pos-diff, shr-double, diff-mag, diff-shr, all-multiple, diff-range, diff-abs, mag-abs, product-abs}
 
 -- ---- the sum, halved, with the addend taken out
 
@@ -114,3 +114,21 @@ signed-mag false p h = omega arith
 signed-mag true (pos zero) h = omega arith
 signed-mag true (pos (suc n)) h = omega arith
 signed-mag true (negsuc n) h = omega arith
+
+-- ---- what a product of two numbers of P has left after a division by P, rounded by less than P
+
+below-divided : (n k P : ℕ) → n < k * P → n / P < k
+below-divided n k P h = lt-of-mul-lt-mul-right P (lt-of-le-of-lt (div-mul-le-self n P) h)
+
+shr-abs : (P a b : ℕ) → a < b + (P * P + P) → b ≤ a + P * P → natAbs (shrZ (diff a b) P) ≤ P
+shr-abs P a b up down =
+    sub-ind (λ z. natAbs (shrZ z P) ≤ P) a b
+    (λ x e. omega (arith, below-divided x (P + 1) P (omega (arith, add-mul P 1 P))))
+    (λ x e. omega (arith, below-divided x P P (omega arith)))
+
+pub upper-abs : (P q : ℕ) → q < P → (t : ℤ) → natAbs t ≤ P * P → natAbs (shrZ (pos q +ℤ t) P) ≤ P
+upper-abs P q l =
+    all (λ t. natAbs t ≤ P * P → natAbs (shrZ (pos q +ℤ t) P) ≤ P)
+    (λ a b h.
+    let r = diff-abs a b (P * P) h in
+    rw (pos-diff q, diff-add q 0 a b) (shr-abs P (q + a) (0 + b) (omega arith) (omega arith)))

@@ -94,7 +94,7 @@ toward N d t h =
     let r = diff-abs a b (2 ^ (N - 1)) h in
     record { above = past-top (2 ^ (N - 1)) a b c e (pow-pos (N - 1)) (r .0); below = past-bottom (2 ^ (N - 1)) a b c e (r .1) }) t) d h
 
-abs-signed : (minus : Bool) (z : ℤ) → natAbs (signedBy minus z) ≡ natAbs z
+pub abs-signed : (minus : Bool) (z : ℤ) → natAbs (signedBy minus z) ≡ natAbs z
 abs-signed false z = refl
 abs-signed true (pos zero) = refl
 abs-signed true (pos (suc n)) = refl

@@ -8,7 +8,7 @@ use native.Mathlib.Nat.{lt-of-le-of-lt, mul-le-mul-left}
 use lib.Pow.{pow-pos}
 use native.Mathlib.Omega.{arith}
 use lib.Dec.{lit<}
-use lib.IntN.{ℤ, pos, natAbs, _+ℤ_, _*ℤ_}
+use lib.IntN.{ℤ, pos, natAbs, _+ℤ_, _*ℤ_, +ℤ-comm}
 use lib.Signed.{shrZ, mag, mag-shr, natAbs-le}
 use mir.Syntax.{Width, w8, w16, w32, w64}
 use mir.Val.{SFits, toZ, ofZ, bits, hbits}
@@ -16,9 +16,10 @@ use mir.Facts.{toZ-ofZ}
 use Rattle.integer.specs.Number.{rounded, signedBy, signed, pattern, wrap}
 use Rattle.integer.specs.Lane.{SumIn, Toward}
 use Rattle.integer.proofs.Word.{kept, pattern-narrow}
-use Rattle.integer.proofs.Round.{round-upper, round-apart, sum-mag, product-mag, signed-mag}
+use Rattle.integer.proofs.Round.{round-upper, round-apart, sum-mag, product-mag, signed-mag, upper-abs}
+use Rattle.integer.proofs.Difference.{product-abs}
 use Rattle.integer.proofs.Bits.{half}
-use Rattle.integer.proofs.Toward.{toward, toward-addend}
+use Rattle.integer.proofs.Toward.{toward, toward-addend, abs-signed}
 
 -- q is a quarter of 2^N, where n has N bits, and w has room for a product, an addend and q
 pub record Wide (n w : Width) (q : ℕ) : Type 0 where
@@ -98,6 +99,18 @@ module _ {n w : Width} {q : ℕ} (r : Wide n w q) where
     fits-upper : SFits w (rounded (bits n) (pos 0) (signedBy minus (a *ℤ b)))
     fits-upper = record { sfits = omega (arith, upper-mag, r .room) }
 
+    upper-small : natAbs (rounded (bits n) (pos 0) (signedBy minus (a *ℤ b))) ≤ 2 ^ (bits n - 1)
+    upper-small =
+        let q-below : q < 2 ^ hbits n = omega (arith, r .even, pow-pos (hbits n)) in
+        rw (upper-shifted, half n)
+        (upper-abs (2 ^ hbits n) q q-below (signedBy minus (a *ℤ b)) (rw (abs-signed minus (a *ℤ b)) (product-abs a b (natAbs-le a (f .sfits)) (natAbs-le b (g .sfits)))))
+
+    -- the lane picks the end of the clamp
+    pub toward-lane : {c s : ℤ} → s ≡ rounded (bits n) c (signedBy minus (a *ℤ b)) → Toward (bits n) s c
+    toward-lane {c} e =
+        rw (e, round-apart (bits n) c (signedBy minus (a *ℤ b)), +ℤ-comm c (rounded (bits n) (pos 0) (signedBy minus (a *ℤ b))))
+        (toward (bits n) (rounded (bits n) (pos 0) (signedBy minus (a *ℤ b))) c upper-small)
+
     -- p is the product, and v what is read of a quarter and p
     pub read-upper : {p v : ℤ} → mag p < 2 ^ hbits w → p ≡ toZ n (ofZ n a) *ℤ toZ n (ofZ n b) → mag v < 2 ^ hbits w → v ≡ pos q +ℤ signedBy minus (toZ w (ofZ w p)) → toZ w (ofZ w (shrZ (toZ w (ofZ w v)) (2 ^ hbits n))) ≡ rounded (bits n) (pos 0) (signedBy minus (a *ℤ b))
     read-upper h e k s = rw (kept w _ k ∙ s, exact f g h e, sym upper-shifted) (toZ-ofZ fits-upper)
@@ -142,6 +155,10 @@ module _ {n w : Width} {q : ℕ} (r : Wide n w q) where
   -- the addend picks the end of the clamp
   pub toward-lanes : {c b s : ℤ} (minus : Bool) → SFits n c → SFits n b → mag s < 2 ^ hbits w → s ≡ c +ℤ signedBy minus b → Toward (bits n) (toZ w (ofZ w s)) (toZ w (ofZ w (toZ n (ofZ n c))))
   toward-lanes {c} {b} minus f g h e = rw (kept w _ h ∙ e, read-cast f) (toward-addend (bits n) minus c b (abs-lane g))
+
+  -- what the code reads of a number and of a lane that was widened
+  pub lane-toward : {s x : ℤ} → mag s < 2 ^ hbits w → mag x < 2 ^ hbits n → Toward (bits n) s x → Toward (bits n) (toZ w (ofZ w s)) (toZ w (ofZ w (toZ n (ofZ n x))))
+  lane-toward h l t = rw (kept w _ h, read-cast (record { sfits = l })) t
 
   -- the rounded sum of lanes that fit
   pub rounded-sum : {c a b s : ℤ} (minus : Bool) → SFits n c → SFits n a → SFits n b → s ≡ rounded (bits n) (toZ n (ofZ n c)) (signedBy minus (toZ n (ofZ n a) *ℤ toZ n (ofZ n b))) → s ≡ rounded (bits n) c (signedBy minus (a *ℤ b))

@@ -1,13 +1,16 @@
 -- From lanes to the definition by element, for every size and form. The lanes past the form's are zero, so they have zero bytes and clamp nowhere.
 -- Assumes nothing.
-use mathlib.Core.Path.{_≡_, refl, sym, ap, ap₂, _∙_}
-use mathlib.Core.Bool.{Bool, true, false, cond, _||_}
+use mathlib.Core.Path.{_≡_, refl, sym, ap, ap₂, subst, _∙_}
+use mathlib.Core.Bool.{Bool, true, false, cond, _||_, false≢true}
 use mathlib.Core.List.{List}
 use Prim.Native.Nat.{ℕ, zero, suc, _+_, _-_, _*_, _/_, _%_, _^_, _≤_, _<_}
 use native.Mathlib.Nat.{add-zero, add-suc}
 use native.Mathlib.Omega.{arith}
+use native.Mathlib.Decide.{ℕ-discrete}
 use borrow.Author.Tests.{lt-ltb, le-ltb}
 use lib.Dec.{ltb}
+use lib.ListN.{set, length, replicate}
+use lib.Seq.{getD-set-same, getD-set-other}
 use lib.IntN.{ℤ, pos, negℤ, _*ℤ_}
 use lib.Signed.{ltZ, mag}
 use mir.Syntax.{Width}
@@ -16,11 +19,13 @@ use native.Mathlib.Numerals.{add-one}
 use Rattle.integer.proofs.Word.{kept}
 use Rattle.integer.specs.Number.{signedBy, byteOf, rounded, clampTo, clamp, clamps, endTo}
 use Rattle.integer.proofs.Wrap.{byte-zero}
-use Rattle.isa.specs.Register.{Size, bytes, bits, pairs, element}
+use Rattle.integer.specs.Lane.{Toward}
+use Rattle.isa.specs.Register.{Bytes, Size, bytes, bits, pairs, element}
 use Rattle.isa.specs.Meaning.{Form, laneCount, laneValue, laneEnd, laneBytes, laneClamps, anyBelow}
-use Rattle.isa.specs.Segment.{bytesOf, Elements}
-use Rattle.isa.specs.Stage.{lane, LanesOf, Summed, Clamped, BytesOfLanes}
+use Rattle.isa.specs.Segment.{bytesOf, Elements, ElementsBy}
+use Rattle.isa.specs.Stage.{lane, LanesOf, Summed, Towards, Clamped, BytesOfLanes}
 use Rattle.isa.proofs.Local.{lane-small, count-small, any-local}
+use Rattle.isa.proofs.Made.{all-same}
 
 -- ---- zero lies inside every range
 
@@ -50,24 +55,23 @@ past count (suc k) test h =
 
 -- ---- the stages of a kernel
 
--- `count` lanes are the form's; x, y and ml the lanes of c, n and m, b the element at the index, s the sums, t the clamped ones and r their bytes
-pub elements : (f : Form) (z : Size) (index : ℕ) (minus : Bool) → index < 2 * pairs z →
-    {c n m r : List ℕ} {x y ml s t : List ℤ} {b : ℤ} {count : ℕ} {any : Bool} →
-    count ≡ laneCount f z → LanesOf z x (bytesOf c) → LanesOf z y (bytesOf n) → LanesOf z ml (bytesOf m) → b ≡ lane ml index →
+-- `count` lanes are the form's; x and y the lanes of c and n, b the element at the index of m, s the sums, t the clamped ones and r their bytes
+elements-at : (f : Form) (z : Size) (index : ℕ) (minus : Bool) {c n r : List ℕ} (m : Bytes) {x y s t : List ℤ} {b : ℤ} {count : ℕ} {any : Bool} →
+    count ≡ laneCount f z → LanesOf z x (bytesOf c) → LanesOf z y (bytesOf n) → b ≡ element z m index →
     Summed z count minus s x y b → Clamped z t s → BytesOfLanes z r t → any ≡ anyBelow (2 * pairs z) (λ e. clamps (bits z) (lane s e)) →
     Elements f z index minus r any c n m
 unfolding laneBytes laneClamps laneEnd laneValue
-elements f z index minus small {c} {n} {m} {r} {x} {y} {ml} {s} {t} {b} {count} {any} ec hx hy hm eb hs ht hr ha =
+elements-at f z index minus {c} {n} {r} m {x} {y} {s} {t} {b} {count} {any} ec hx hy eb hs ht hr ha =
     record { sized = hr .sized; at = bytes-are; flag = ha ∙ shorter ∙ any-local (laneCount f z) _ _ (λ e h. ap (clamps (bits z)) (inside e h)) }
   where
     value : ℕ → ℤ
-    value e = rounded (bits z) (element z (bytesOf c) e) (signedBy minus (element z (bytesOf n) e *ℤ element z (bytesOf m) index))
+    value e = rounded (bits z) (element z (bytesOf c) e) (signedBy minus (element z (bytesOf n) e *ℤ element z m index))
 
     sum : (e : ℕ) → e < 2 * pairs z → lane s e ≡ cond (ltb e (laneCount f z)) (value e) (pos 0)
     sum e h =
         hs .at e h
         ∙ ap₂ (λ k v. cond (ltb e k) v (pos 0)) ec
-        (ap₂ (rounded (bits z)) (hx .at e h) (ap (signedBy minus) (ap₂ _*ℤ_ (hy .at e h) (eb ∙ hm .at index small))))
+        (ap₂ (rounded (bits z)) (hx .at e h) (ap (signedBy minus) (ap₂ _*ℤ_ (hy .at e h) eb)))
 
     inside : (e : ℕ) → e < laneCount f z → lane s e ≡ value e
     inside e h = sum e (omega (arith, count-small f z)) ∙ rw (lt-ltb e (laneCount f z) h)
@@ -87,12 +91,19 @@ elements f z index minus small {c} {n} {m} {r} {x} {y} {ml} {s} {t} {b} {count} 
     by-lane e j h false p =
         ap (λ (v : ℤ). byteOf (bits z) (clamp (bits z) v) j) (sum e h ∙ rw p) ∙ ap (λ (v : ℤ). byteOf (bits z) v j) (clamp-zero (bits z)) ∙ byte-zero (bits z) j
 
-    bytes-are : (i : ℕ) → i < 16 → bytesOf r i ≡ laneBytes f z index minus (bytesOf c) (bytesOf n) (bytesOf m) i
+    bytes-are : (i : ℕ) → i < 16 → bytesOf r i ≡ laneBytes f z index minus (bytesOf c) (bytesOf n) m i
     bytes-are i l =
         let e = i / bytes z in
         let h = lane-small z i l in
         hr .at i l ∙ ap (λ (v : ℤ). byteOf (bits z) v (i % bytes z)) (ht .at e h) ∙ by-lane e (i % bytes z) h (ltb e (laneCount f z)) refl
         ∙ rw (lt-ltb i 16 l)
+
+-- k is what the sums' b reads
+pub elements : (f : Form) (z : Size) (minus : Bool) {c n r : List ℕ} {x y s t : List ℤ} {b k : ℤ} {count : ℕ} {any : Bool} →
+    count ≡ laneCount f z → LanesOf z x (bytesOf c) → LanesOf z y (bytesOf n) → b ≡ k →
+    Summed z count minus s x y b → Clamped z t s → BytesOfLanes z r t → any ≡ anyBelow (2 * pairs z) (λ e. clamps (bits z) (lane s e)) →
+    ElementsBy f z k minus r any c n
+elements f z minus ec hx hy eb hs ht hr ha = record { made = λ m index e. elements-at f z index minus m ec hx hy (eb ∙ sym e) hs ht hr ha }
 
 -- ---- the loops
 
@@ -101,6 +112,31 @@ pub sum-lane : (w k : Width) (N : ℕ) (minus : Bool) {s : ℤ} (x y : ℤ) (b :
     s ≡ rounded N (toZ w (ofZ w x)) (signedBy minus (toZ w (ofZ w y) *ℤ toZ w b)) → toZ k (ofZ k s) ≡ rounded N x (signedBy minus (y *ℤ toZ w b))
 sum-lane w k N minus {s} x y b hs hx hy p =
     kept k s hs ∙ p ∙ ap₂ (λ a d. rounded N a (signedBy minus (d *ℤ toZ w b))) (kept w x hx) (kept w y hy)
+
+-- ---- which end a sum is past
+
+zero-toward : (N : ℕ) (t : ℤ) → Toward N (pos 0) t
+zero-toward N t = record {
+  above = λ e. absurd (false≢true (sym (zero-high (2 ^ (N - 1) - 1)) ∙ e));
+  below = λ e. absurd (false≢true (sym (zero-low (2 ^ (N - 1))) ∙ e));
+}
+
+pub towards-none : (z : Size) (size : ℕ) (x : List ℤ) → Towards z (replicate size (pos 0)) x
+towards-none z size x = record { at = λ e h. rw (all-same (pos 0) size e) (zero-toward (bits z) (lane x e)) }
+
+-- one sum more
+pub towards-more : {z : Size} {s x : List ℤ} → Towards z s x → (e : ℕ) → e < length s → (v : ℤ) → Toward (bits z) v (lane x e) → Towards z (set s e v) x
+towards-more {z} {s} {x} t e h v new = record { at = λ k l. by-place k l (ℕ-discrete k e) }
+  where
+    by-place : (k : ℕ) → k < 2 * pairs z → Dec (k ≡ e) → Toward (bits z) (lane (set s e v) k) (lane x k)
+    by-place k l (yes p) = rw (p, getD-set-same s e v (pos 0) h) new
+    by-place k l (no p) = rw (getD-set-other s e k v (pos 0) p) (t .at k l)
+
+-- what the code reads of a sum and of its lane
+pub read-toward : (w k : Width) (N : ℕ) {s x : ℤ} → mag s < 2 ^ hbits k → mag x < 2 ^ hbits w → Toward N s (toZ w (ofZ w x)) → Toward N (toZ k (ofZ k s)) x
+read-toward w k N {s} {x} hs hx t = rw (kept k s hs) (subst (Toward N s) (kept w x hx) t)
+
+-- ---- the flag
 
 -- a loop that tells whether some lane of `size` passes a test
 pub record Told (size e : ℕ) (test : ℕ → Bool) (any : Bool) : Type 0 where

@@ -194,8 +194,8 @@ module _ (z : Size) (c₁ n₁ m₁ c₂ n₂ m₂ : Bytes) (c : Near c₁ c₂)
 
   pub lane-local : (l : Form) (index : ℕ) → index < 2 * pairs z → (minus : Bool) →
       (i : ℕ) → i < 16 → laneBytes l z index minus c₁ n₁ m₁ i ≡ laneBytes l z index minus c₂ n₂ m₂ i
-  unfolding laneBytes Near
-  lane-local l index small minus i h = rw (value-local index small minus (i / bytes z) (lane-small z i h), c i h)
+  unfolding laneBytes
+  lane-local l index small minus i h = rw (value-local index small minus (i / bytes z) (lane-small z i h))
 
   pub clamps-local : (l : Form) (index : ℕ) → index < 2 * pairs z → (minus : Bool) →
       laneClamps l z index minus c₁ n₁ m₁ ≡ laneClamps l z index minus c₂ n₂ m₂
@@ -252,24 +252,21 @@ flag-kept (SqrdcmlahIndexed o) sve regs flag = refl
 flag-kept (Sqrdmlah o) sve regs flag = absurd (true≢false sve)
 flag-kept (Sqrdmlsh o) sve regs flag = absurd (true≢false sve)
 
--- Above the first 16 bytes, a byte that an Advanced SIMD operation writes depends on the byte there before alone.
-pub lane-above : (l : Form) (z : Size) (index : ℕ) (minus : Bool) (c n m : Bytes) (j : ℕ) → 16 ≤ j → laneBytes l z index minus c n m j ≡ above (c j)
+-- Above the first 16 bytes, what an Advanced SIMD operation writes depends on nothing. `lane-above`: for its bytes; `written-above`: for the operation.
+pub lane-above : (l : Form) (z : Size) (index : ℕ) (minus : Bool) (c n m : Bytes) (j : ℕ) → 16 ≤ j → laneBytes l z index minus c n m j ≡ above
 unfolding laneBytes
 lane-above l z index minus c n m j h = rw (le-ltb j 16 h)
 
-module _ (r₁ r₂ : Regs) (j : ℕ) (high : 16 ≤ j) (same : (r : ℕ) → r₁ r j ≡ r₂ r j) where
-  written-above : (op : Op) → advancedSimd op ≡ true → (r : ℕ) → written op r₁ r j ≡ written op r₂ r j
-  unfolding written advancedSimd
-  written-above (Cadd o) simd r = absurd (false≢true simd)
-  written-above (Sqcadd o) simd r = absurd (false≢true simd)
-  written-above (Cmla o) simd r = absurd (false≢true simd)
-  written-above (Sqrdcmlah o) simd r = absurd (false≢true simd)
-  written-above (CmlaIndexed o) simd r = absurd (false≢true simd)
-  written-above (SqrdcmlahIndexed o) simd r = absurd (false≢true simd)
-  written-above (Sqrdmlah o) simd r =
-      lane-above (o .form) (o .size) (o .index) adds _ _ _ j high ∙ ap above (same (o .rd)) ∙ sym (lane-above (o .form) (o .size) (o .index) adds _ _ _ j high)
-  written-above (Sqrdmlsh o) simd r =
-      lane-above (o .form) (o .size) (o .index) subtracts _ _ _ j high ∙ ap above (same (o .rd)) ∙ sym (lane-above (o .form) (o .size) (o .index) subtracts _ _ _ j high)
+pub written-above : (op : Op) → advancedSimd op ≡ true → (regs : Regs) (r j : ℕ) → 16 ≤ j → written op regs r j ≡ above
+unfolding written advancedSimd
+written-above (Cadd o) simd regs r j high = absurd (false≢true simd)
+written-above (Sqcadd o) simd regs r j high = absurd (false≢true simd)
+written-above (Cmla o) simd regs r j high = absurd (false≢true simd)
+written-above (Sqrdcmlah o) simd regs r j high = absurd (false≢true simd)
+written-above (CmlaIndexed o) simd regs r j high = absurd (false≢true simd)
+written-above (SqrdcmlahIndexed o) simd regs r j high = absurd (false≢true simd)
+written-above (Sqrdmlah o) simd regs r j high = lane-above (o .form) (o .size) (o .index) adds _ _ _ j high
+written-above (Sqrdmlsh o) simd regs r j high = lane-above (o .form) (o .size) (o .index) subtracts _ _ _ j high
 
 -- ---- the same laws of the whole step
 
@@ -284,4 +281,4 @@ step-local op fits r₁ r₂ alike r i h = ap₂ (cond (writes op r)) (written-l
 pub step-above : (op : Op) → advancedSimd op ≡ true → (r₁ r₂ : Regs) (j : ℕ) → 16 ≤ j → ((r : ℕ) → r₁ r j ≡ r₂ r j) →
     (r : ℕ) → step op r₁ r j ≡ step op r₂ r j
 unfolding step
-step-above op simd r₁ r₂ j high same r = ap₂ (cond (writes op r)) (written-above r₁ r₂ j high same op simd r) (same r)
+step-above op simd r₁ r₂ j high same r = ap₂ (cond (writes op r)) (written-above op simd r₁ r j high ∙ sym (written-above op simd r₂ r j high)) (same r)

@@ -46,7 +46,7 @@ pub record Begun {A : Type 0} (d : A) (size count n : ℕ) (f : ℕ → A) (r : 
   pub below : n ≤ count
   pub rest : (k : ℕ) → n ≤ k → getD r k d ≡ d
 
-all-same : {A : Type 0} (d : A) (n k : ℕ) → getD (replicate n d) k d ≡ d
+pub all-same : {A : Type 0} (d : A) (n k : ℕ) → getD (replicate n d) k d ≡ d
 all-same d zero k = refl
 all-same d (suc n) zero = refl
 all-same d (suc n) (suc k) = all-same d n k

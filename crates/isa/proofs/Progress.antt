@@ -1,20 +1,20 @@
 -- An operation worked in the file, one 128-bit segment after the other. `progress-start`: with no segment worked the file is as it was. `progress-on`: a
 -- store of what an SVE2 operation writes into segment k goes one segment on. `progress-end`: with every segment worked the file is as the operation
--- leaves it. `simd-stored`: one store of the first segment is the whole of an Advanced SIMD operation. Assumes nothing.
+-- leaves it. `register-stored`: so is a file in which the whole register that an operation writes has been stored. Assumes nothing.
 use mathlib.Core.Path.{_≡_, refl, sym, ap, subst, _∙_}
 use mathlib.Core.Logic.{_≢_}
 use Prim.Native.Nat.{ℕ, suc, _+_, _*_, _/_, _%_, _<_, _≤_}
 use native.Mathlib.Omega.{arith}
 use native.Mathlib.Nat.{mul-le-mul-right}
-use mathlib.Core.Bool.{true, false, cond, false≢true}
+use mathlib.Core.Bool.{true, false, cond}
 use mathlib.Core.List.{List}
 use lib.ListN.{length, getD}
 use lib.Dec.{ltb, eqb}
 use borrow.Author.Tests.{ltb-true, ltb-false, lt-ltb, le-ltb, eqb-true, eqb-false, eq-eqb, ne-eqb}
 use Rattle.isa.specs.Register.{Regs, window, segment}
-use Rattle.isa.specs.Meaning.{Op, Cadd, Sqcadd, Cmla, Sqrdcmlah, CmlaIndexed, SqrdcmlahIndexed, Sqrdmlah, Sqrdmlsh, writes, written, step, advancedSimd, above, adds, subtracts}
+use Rattle.isa.specs.Meaning.{Op, writes, written, step, advancedSimd}
 use Rattle.isa.specs.File.{legal, byteAt, fileOf}
-use Rattle.isa.proofs.Local.{Fits, Near, Alike, written-shift, written-local, lane-above}
+use Rattle.isa.proofs.Local.{Fits, Near, Alike, written-shift, written-local}
 use Rattle.isa.proofs.File.{cases, legal-exact, fileOf-length, fileOf-at, fileOf-cong, fileOf-bytes, byteAt-past}
 
 -- ---- one operation's registers
@@ -55,7 +55,20 @@ worked-beside k op regs r j ne = cases (ltb j (16 * k))
 unfoldable pub progress : ℕ → ℕ → Op → List ℕ → List ℕ
 progress L k op file = fileOf L (worked k op (byteAt L file))
 
--- ---- a store of 16 bytes where segment k of register d stands
+-- ---- a store into register d
+
+-- no other register has changed
+beside : (L d : ℕ) (g after : List ℕ) → ((x : ℕ) → x < d * (L / 8) → getD after x 0 ≡ getD g x 0) →
+    ((x : ℕ) → d * (L / 8) + L / 8 ≤ x → getD after x 0 ≡ getD g x 0) →
+    (r j : ℕ) → j < L / 8 → r ≢ d → byteAt L after r j ≡ byteAt L g r j
+unfolding byteAt
+beside L d g after low high r j l ne = cases (ltb r d)
+    (λ e. low (r * (L / 8) + j) (omega (arith, mul-le-mul-right (L / 8) (ltb-true r d e))))
+    (λ e.
+    let more : suc d ≤ r = omega (arith, ltb-false r d e) in
+    high (r * (L / 8) + j) (omega (arith, mul-le-mul-right (L / 8) more)))
+
+-- ---- a store of 16 bytes where its segment k stands
 
 -- segment k of register r lies in the file
 pub segment-fits : (L : ℕ) → legal L ≡ true → (r k : ℕ) → r < 32 → k < L / 128 → r * (L / 8) + 16 * k + 16 ≤ 4 * L
@@ -67,14 +80,9 @@ module _ (L : ℕ) (ok : legal L ≡ true) (d k : ℕ) (within : k < L / 128) (g
     (low : (x : ℕ) → x < d * (L / 8) + 16 * k → getD after x 0 ≡ getD g x 0)
     (high : (x : ℕ) → d * (L / 8) + 16 * k + 16 ≤ x → getD after x 0 ≡ getD g x 0) where
   other-register : (r j : ℕ) → j < L / 8 → r ≢ d → byteAt L after r j ≡ byteAt L g r j
-  unfolding byteAt
-  other-register r j l ne =
+  other-register =
       let whole = legal-exact L .0 ok .whole in
-      cases (ltb r d)
-      (λ e. low (r * (L / 8) + j) (omega (arith, mul-le-mul-right (L / 8) (ltb-true r d e))))
-      (λ e.
-      let more : suc d ≤ r = omega (arith, ltb-false r d e) in
-      high (r * (L / 8) + j) (omega (arith, mul-le-mul-right (L / 8) more)))
+      beside L d g after (λ x h. low x (omega arith)) (λ x h. high x (omega (arith, within, whole)))
 
   other-segment : (j : ℕ) → j / 16 ≢ k → byteAt L after d j ≡ byteAt L g d j
   unfolding byteAt
@@ -161,58 +169,21 @@ module _ (L : ℕ) (ok : legal L ≡ true) (op : Op) (f : List ℕ) (size : leng
           (λ e. subst (λ n. byteAt L after n j ≡ worked (k + 1) op (byteAt L f) n j) (sym (eqb-true r d e)) (at-d j l))
           (λ e. off-d r j h l (eqb-false r d e)))
 
--- ---- an Advanced SIMD operation
+-- ---- a store of the whole register
 
--- above the first 16 bytes the destination stays
-written-above : (op : Op) → advancedSimd op ≡ true → (regs : Regs) (d : ℕ) → writes op d ≡ true → (j : ℕ) → 16 ≤ j → written op regs d j ≡ regs d j
-unfolding written advancedSimd writes above
-written-above (Cadd o) simd regs d here j high = absurd (false≢true simd)
-written-above (Sqcadd o) simd regs d here j high = absurd (false≢true simd)
-written-above (Cmla o) simd regs d here j high = absurd (false≢true simd)
-written-above (Sqrdcmlah o) simd regs d here j high = absurd (false≢true simd)
-written-above (CmlaIndexed o) simd regs d here j high = absurd (false≢true simd)
-written-above (SqrdcmlahIndexed o) simd regs d here j high = absurd (false≢true simd)
-written-above (Sqrdmlah o) simd regs d here j high =
-    lane-above (o .form) (o .size) (o .index) adds _ _ _ j high ∙ ap (λ n. regs n j) (sym (eqb-true d (o .rd) here))
-written-above (Sqrdmlsh o) simd regs d here j high =
-    lane-above (o .form) (o .size) (o .index) subtracts _ _ _ j high ∙ ap (λ n. regs n j) (sym (eqb-true d (o .rd) here))
+module _ (L : ℕ) (ok : legal L ≡ true) (op : Op) (d : ℕ) (only : (r : ℕ) → writes op r ≡ eqb r d) (g after : List ℕ) (same : length after ≡ 4 * L)
+    (inside : (j : ℕ) → j < L / 8 → getD after (d * (L / 8) + j) 0 ≡ written op (byteAt L g) d j)
+    (low : (x : ℕ) → x < d * (L / 8) → getD after x 0 ≡ getD g x 0)
+    (high : (x : ℕ) → d * (L / 8) + L / 8 ≤ x → getD after x 0 ≡ getD g x 0) where
+  in-register : (j : ℕ) → j < L / 8 → byteAt L after d j ≡ step op (byteAt L g) d j
+  unfolding byteAt
+  in-register j l = inside j l ∙ sym (step-writes op (byteAt L g) d j (only d ∙ eq-eqb d d refl))
 
-module _ (L : ℕ) (ok : legal L ≡ true) (op : Op) (simd : advancedSimd op ≡ true) (fits : Fits op) (d : ℕ) (only : (r : ℕ) → writes op r ≡ eqb r d)
-    (g after : List ℕ) (same : length after ≡ 4 * L)
-    (inside : (i : ℕ) → i < 16 → getD after (d * (L / 8) + 16 * 0 + i) 0 ≡ written op (segment 0 (byteAt L g)) d i)
-    (low : (x : ℕ) → x < d * (L / 8) + 16 * 0 → getD after x 0 ≡ getD g x 0)
-    (high : (x : ℕ) → d * (L / 8) + 16 * 0 + 16 ≤ x → getD after x 0 ≡ getD g x 0) where
-  some : 0 < L / 128
-  some = let k = legal-exact L .0 ok in omega arith
-
-  first-alike : Alike (segment 0 (byteAt L g)) (byteAt L g)
-  unfolding Alike Near segment window
-  first-alike r i h = ap (byteAt L g r) (omega arith)
-
-  writes-d : writes op d ≡ true
-  writes-d = only d ∙ eq-eqb d d refl
-
-  simd-at : (j : ℕ) → byteAt L after d j ≡ step op (byteAt L g) d j
-  simd-at j = cases (eqb (j / 16) 0)
-      (λ e.
-      let here = eqb-true (j / 16) 0 e in
-      let first : j % 16 ≡ j = omega arith in
-      stored-at L d 0 after j here
-      ∙ inside (j % 16) (omega arith)
-      ∙ written-local _ _ first-alike op fits d (j % 16) (omega arith)
-      ∙ ap (written op (byteAt L g) d) first
-      ∙ sym (step-writes op (byteAt L g) d j writes-d))
-      (λ e.
-      let ne : j / 16 ≢ 0 = eqb-false (j / 16) 0 e in
-      other-segment L ok d 0 some g after low high j ne
-      ∙ sym (written-above op simd (byteAt L g) d writes-d j (omega arith))
-      ∙ sym (step-writes op (byteAt L g) d j writes-d))
-
-  pub simd-stored : after ≡ fileOf L (step op (byteAt L g))
-  simd-stored =
+  pub register-stored : after ≡ fileOf L (step op (byteAt L g))
+  register-stored =
       sym (fileOf-bytes L ok after same)
       ∙ fileOf-cong L ok _ _ (λ r j h l. cases (eqb r d)
-      (λ e. subst (λ n. byteAt L after n j ≡ step op (byteAt L g) n j) (sym (eqb-true r d e)) (simd-at j))
+      (λ e. subst (λ n. byteAt L after n j ≡ step op (byteAt L g) n j) (sym (eqb-true r d e)) (in-register j l))
       (λ e.
       let ne : r ≢ d = eqb-false r d e in
-      other-register L ok d 0 some g after low high r j l ne ∙ sym (step-keeps op (byteAt L g) r j (only r ∙ ne-eqb r d ne))))
+      beside L d g after low high r j l ne ∙ sym (step-keeps op (byteAt L g) r j (only r ∙ ne-eqb r d ne))))

@@ -77,9 +77,10 @@ laneCount Scalar z = 1
 laneCount Vector64 z = 64 / bits z
 laneCount Vector128 z = 128 / bits z
 
--- What an Advanced SIMD operation leaves above the first 16 bytes of its destination, where the byte `old` was.
-unfoldable pub above : ℕ → ℕ
-above old = old
+-- What an Advanced SIMD operation leaves in every byte above the first 16 of its destination. By Arm's manual a write of V*n* makes the rest of
+-- Z*n* zero. Request A2 put this in the place of document 01's sentence that these bytes stay.
+unfoldable pub above : ℕ
+above = 0
 
 -- SQRDMLAH adds the product, SQRDMLSH subtracts it.
 abbrev pub adds : Bool
@@ -96,12 +97,12 @@ laneValue z index minus c n m e = rounded (bits z) (element z c e) (signedBy min
 unfoldable pub laneEnd : Size → ℕ → Bool → Bytes → Bytes → Bytes → ℕ → End
 laneEnd z index minus c n m e = endOf (bits z) (laneValue z index minus c n m e)
 
--- The bytes of a result by element: the lanes, clamped, and then zero up to byte 16.
+-- The bytes of a result by element: the lanes, clamped, then zero up to byte 16, and what is left above.
 unfoldable pub laneBytes : Form → Size → ℕ → Bool → Bytes → Bytes → Bytes → Bytes
 laneBytes f z index minus c n m j =
     cond (ltb j 16)
     (cond (ltb (j / bytes z) (laneCount f z)) (byteOf (bits z) (clamp (bits z) (laneValue z index minus c n m (j / bytes z))) (j % bytes z)) 0)
-    (above (c j))
+    above
 
 -- Some number below n passes the test.
 unfoldable pub anyBelow : ℕ → (ℕ → Bool) → Bool

@@ -8,6 +8,7 @@ use lib.ListN.{getD, length}
 use lib.Dec.{eqb, ltb}
 use lib.IntN.{ℤ, pos, _*ℤ_}
 use Rattle.integer.specs.Number.{signedBy, byteOf, rounded, clamp}
+use Rattle.integer.specs.Lane.{Toward}
 use Rattle.isa.specs.Register.{Bytes, Size, bytes, bits, pairs, little, element}
 use Rattle.isa.specs.Meaning.{Rotation, R0, R90, R180, R270}
 use Rattle.isa.specs.Segment.{bytesOf}
@@ -73,6 +74,10 @@ pub record Added (z : Size) (f : ℤ → ℤ → ℤ) (s x t : List ℤ) (real i
 -- Below `count`, lane e of s is the rounded sum of lane e of x and of the product of lane e of y with b, or its negative; the others are 0.
 pub record Summed (z : Size) (count : ℕ) (minus : Bool) (s x y : List ℤ) (b : ℤ) : Type 0 where
   pub at : (e : ℕ) → e < 2 * pairs z → lane s e ≡ cond (ltb e count) (rounded (bits z) (lane x e) (signedBy minus (lane y e *ℤ b))) (pos 0)
+
+-- Where lane e of s has no place in its size, the sign of lane e of x tells the end that it is past.
+pub record Towards (z : Size) (s x : List ℤ) : Type 0 where
+  pub at : (e : ℕ) → e < 2 * pairs z → Toward (bits z) (lane s e) (lane x e)
 
 -- Lane e of s is lane e of t, clamped.
 pub record Clamped (z : Size) (s t : List ℤ) : Type 0 where

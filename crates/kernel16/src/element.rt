@@ -1,8 +1,7 @@
 // The families by element. Each form has a function, so that its number of lanes is a constant in the loops.
-// The index is taken modulo the 8 elements of a segment.
 ghost use Prim.Native.Nat.{_%_};
 ghost use Rattle.isa.specs.Meaning.{adds, subtracts};
-ghost use Rattle.isa.specs.Segment.{Elements};
+ghost use Rattle.isa.specs.Segment.{bytesOf, Elements, ElementsBy};
 use crate::segment::any_overflow;
 use crate::segment::bytes;
 use crate::segment::lanes;
@@ -12,36 +11,33 @@ use common::element::Saturated;
 use isa::types::Form;
 use isa::types::Size;
 
-// The first lane, plus or minus the product with the element at the index.
-pub fn scalar(c: [u8; 16], n: [u8; 16], m: [u8; 16], index: usize, minus: bool) -> Saturated
-    ensures { λ r. ⌜ Elements Form.Scalar Size.H (index % 8) minus (r .bytes) (r .clamped) c n m ⌝ }
+// The first lane, plus or minus the product with b.
+pub fn scalar(c: [u8; 16], n: [u8; 16], b: i16, minus: bool) -> Saturated
+    ensures { λ r. ⌜ ElementsBy Form.Scalar Size.H b minus (r .bytes) (r .clamped) c n ⌝ }
 {
-    let z = lanes(m);
-    let s = sums(lanes(c), lanes(n), z[index % 8], 1, minus);
+    let s = sums(lanes(c), lanes(n), b, 1, minus);
     Saturated {
         bytes: bytes(narrowed(s)),
         clamped: any_overflow(s),
     }
 }
 
-// The lanes of the first 8 bytes, plus or minus the product with the element at the index.
-pub fn vector64(c: [u8; 16], n: [u8; 16], m: [u8; 16], index: usize, minus: bool) -> Saturated
-    ensures { λ r. ⌜ Elements Form.Vector64 Size.H (index % 8) minus (r .bytes) (r .clamped) c n m ⌝ }
+// The lanes of the first 8 bytes, plus or minus the product with b.
+pub fn vector64(c: [u8; 16], n: [u8; 16], b: i16, minus: bool) -> Saturated
+    ensures { λ r. ⌜ ElementsBy Form.Vector64 Size.H b minus (r .bytes) (r .clamped) c n ⌝ }
 {
-    let z = lanes(m);
-    let s = sums(lanes(c), lanes(n), z[index % 8], 4, minus);
+    let s = sums(lanes(c), lanes(n), b, 4, minus);
     Saturated {
         bytes: bytes(narrowed(s)),
         clamped: any_overflow(s),
     }
 }
 
-// Every lane, plus or minus the product with the element at the index.
-pub fn vector128(c: [u8; 16], n: [u8; 16], m: [u8; 16], index: usize, minus: bool) -> Saturated
-    ensures { λ r. ⌜ Elements Form.Vector128 Size.H (index % 8) minus (r .bytes) (r .clamped) c n m ⌝ }
+// Every lane, plus or minus the product with b.
+pub fn vector128(c: [u8; 16], n: [u8; 16], b: i16, minus: bool) -> Saturated
+    ensures { λ r. ⌜ ElementsBy Form.Vector128 Size.H b minus (r .bytes) (r .clamped) c n ⌝ }
 {
-    let z = lanes(m);
-    let s = sums(lanes(c), lanes(n), z[index % 8], 8, minus);
+    let s = sums(lanes(c), lanes(n), b, 8, minus);
     Saturated {
         bytes: bytes(narrowed(s)),
         clamped: any_overflow(s),
@@ -50,22 +46,26 @@ pub fn vector128(c: [u8; 16], n: [u8; 16], m: [u8; 16], index: usize, minus: boo
 
 // SQRDMLAH by element on the first 16 bytes.
 pub fn sqrdmlah(c: [u8; 16], n: [u8; 16], m: [u8; 16], index: usize, form: Form) -> Saturated
-    ensures { λ r. ⌜ Elements form Size.H (index % 8) adds (r .bytes) (r .clamped) c n m ⌝ }
+    ensures { λ r. ⌜ Elements form Size.H (index % 8) adds (r .bytes) (r .clamped) c n (bytesOf m) ⌝ }
 {
+    let z = lanes(m);
+    let b = z[index % 8];
     match form {
-        Form::Scalar => scalar(c, n, m, index, false),
-        Form::Vector64 => vector64(c, n, m, index, false),
-        Form::Vector128 => vector128(c, n, m, index, false),
+        Form::Scalar => scalar(c, n, b, false),
+        Form::Vector64 => vector64(c, n, b, false),
+        Form::Vector128 => vector128(c, n, b, false),
     }
 }
 
 // SQRDMLSH by element on the first 16 bytes.
 pub fn sqrdmlsh(c: [u8; 16], n: [u8; 16], m: [u8; 16], index: usize, form: Form) -> Saturated
-    ensures { λ r. ⌜ Elements form Size.H (index % 8) subtracts (r .bytes) (r .clamped) c n m ⌝ }
+    ensures { λ r. ⌜ Elements form Size.H (index % 8) subtracts (r .bytes) (r .clamped) c n (bytesOf m) ⌝ }
 {
+    let z = lanes(m);
+    let b = z[index % 8];
     match form {
-        Form::Scalar => scalar(c, n, m, index, true),
-        Form::Vector64 => vector64(c, n, m, index, true),
-        Form::Vector128 => vector128(c, n, m, index, true),
+        Form::Scalar => scalar(c, n, b, true),
+        Form::Vector64 => vector64(c, n, b, true),
+        Form::Vector128 => vector128(c, n, b, true),
     }
 }

@@ -7,19 +7,6 @@ use crate::product::product;
 use common::bits32::of_bits;
 use common::bits64::to_bits;
 
-// x brought into 32 bits.
-pub fn narrow(x: i64) -> i32
-    ensures { λ r. ⌜ r ≡ clamp 32 x ⌝ }
-{
-    if x < -2147483648 {
-        -2147483648
-    } else if 2147483647 < x {
-        2147483647
-    } else {
-        x as i32
-    }
-}
-
 // Whether x has no place in 32 bits.
 pub fn overflows(x: i64) -> bool
     ensures { λ r. ⌜ r ≡ clamps 32 x ⌝ }
@@ -33,7 +20,7 @@ pub fn overflows(x: i64) -> bool
 
 // x brought into 32 bits, to the end that the sign of `toward` tells. Callers pass a number that they work out anyway,
 // and the compiler makes no branch of this clamp, which data would mispredict.
-fn clamp_toward(x: i64, toward: i64) -> i32
+pub fn clamp_toward(x: i64, toward: i64) -> i32
     requires { ⌜ Toward 32 x toward ⌝ }
     ensures { λ r. ⌜ r ≡ clamp 32 x ⌝ }
 {
@@ -65,7 +52,7 @@ fn upper(a: i32, b: i32, minus: bool) -> i64
 
 // c and the product of a and b, or its negative, doubled and rounded to its upper half.
 pub fn rounding(c: i32, a: i32, b: i32, minus: bool) -> i64
-    ensures { λ r. ⌜ r ≡ rounded 32 c (signedBy minus (a *ℤ b)) ⌝ }
+    ensures { λ r. ⌜ (r ≡ rounded 32 c (signedBy minus (a *ℤ b))) × Toward 32 r c ⌝ }
 {
     (c as i64) + upper(a, b, minus)
 }

@@ -5,10 +5,10 @@ ghost use Rattle.integer.specs.Number.{clamps};
 ghost use Rattle.integer.specs.Lane.{saturated, wrapped, clamped};
 ghost use Rattle.isa.specs.Meaning.{anyBelow};
 ghost use Rattle.isa.specs.Segment.{bytesOf};
-ghost use Rattle.isa.specs.Stage.{LanesOf, Taken, Multiplied, Added, BytesOfLanes, firstPlace, secondPlace, indexPlace, Summed, Clamped, lane};
+ghost use Rattle.isa.specs.Stage.{LanesOf, Taken, Multiplied, Added, BytesOfLanes, firstPlace, secondPlace, indexPlace, Summed, Towards, Clamped, lane};
 use crate::lane::add;
+use crate::lane::clamp_toward;
 use crate::lane::mla;
-use crate::lane::narrow;
 use crate::lane::overflows;
 use crate::lane::round;
 use crate::lane::rounding;
@@ -124,10 +124,10 @@ pub fn sats(x: [i32; 4], z: [i32; 4], real: bool, imaginary: bool) -> [i32; 4]
     r
 }
 
-// The first `count` lanes by element b, rounded and not yet clamped; the others are 0.
+// The first `count` lanes by element b, rounded and not yet clamped; the others are 0. Past the range, the sign of x's lane tells the end.
 pub fn sums(x: [i32; 4], y: [i32; 4], b: i32, count: usize, minus: bool) -> [i64; 4]
     requires { ⌜ count ≤ 4 ⌝ }
-    ensures { λ r. ⌜ Summed Size.S count minus r x y b ⌝ }
+    ensures { λ r. ⌜ Summed Size.S count minus r x y b × Towards Size.S r x ⌝ }
 {
     let mut r = [0i64; 4];
     for e in 0..count {
@@ -136,12 +136,14 @@ pub fn sums(x: [i32; 4], y: [i32; 4], b: i32, count: usize, minus: bool) -> [i64
     r
 }
 
-pub fn narrowed(s: [i64; 4]) -> [i32; 4]
+// The lanes of s, clamped to the ends that the signs of x's lanes tell. These are there before the products are.
+pub fn narrowed(s: [i64; 4], x: [i32; 4]) -> [i32; 4]
+    requires { ⌜ Towards Size.S s x ⌝ }
     ensures { λ r. ⌜ Clamped Size.S r s ⌝ }
 {
     let mut r = [0i32; 4];
     for e in 0..4 {
-        r[e] = narrow(s[e]);
+        r[e] = clamp_toward(s[e], x[e] as i64);
     }
     r
 }

@@ -1,15 +1,15 @@
--- One byte more is read, or stored. Assumes nothing.
-use mathlib.Core.Path.{_≡_, refl, sym, subst, _∙_}
+-- One byte more is read, or stored; one store of zeros more is cleared. Assumes nothing.
+use mathlib.Core.Path.{_≡_, refl, sym, ap, subst, _∙_}
 use mathlib.Core.Logic.{_≢_}
-use Prim.Native.Nat.{ℕ, _+_, _<_}
+use Prim.Native.Nat.{ℕ, _+_, _-_, _<_, _≤_}
 use native.Mathlib.Omega.{arith}
 use mathlib.Core.List.{List}
 use lib.ListN.{length, getD, set, length-set}
 use lib.Seq.{getD-set-same, getD-set-other}
-use lib.Dec.{eqb}
-use borrow.Author.Tests.{eqb-true, eqb-false}
+use lib.Dec.{ltb, eqb}
+use borrow.Author.Tests.{ltb-true, ltb-false, eqb-true, eqb-false}
 use Rattle.isa.proofs.File.{cases}
-use Rattle.regfile.specs.Bytes.{Loaded, Stored}
+use Rattle.regfile.specs.Bytes.{Loaded, Stored, Cleared}
 
 pub load-none : (file : List ℕ) (at : ℕ) (r : List ℕ) → Loaded file at 0 r
 load-none file at r = record { read = λ i h. absurd (omega arith) }
@@ -46,4 +46,20 @@ store-more file at i new after h s = record {
   high = λ x b.
       let off : x ≢ at + i = omega arith in
       getD-set-other after (at + i) x _ 0 off ∙ s .high x (omega arith);
+}
+
+pub clear-none : (file : List ℕ) (from : ℕ) → Cleared file from from file
+clear-none file from = record { size = refl; inside = λ x h l. absurd (omega arith); low = λ x h. refl; high = λ x h. refl }
+
+pub clear-more : (file : List ℕ) (from to count : ℕ) (zeros g after : List ℕ) → from ≤ to → Cleared file from to g → Stored g to count zeros after →
+    ((i : ℕ) → getD zeros i 0 ≡ 0) → Cleared file from (to + count) after
+clear-more file from to count zeros g after order c s none = record {
+  size = s .size ∙ c .size;
+  inside = λ x h l. cases (ltb x to)
+      (λ e. s .low x (ltb-true x to e) ∙ c .inside x h (ltb-true x to e))
+      (λ e.
+      let past : to ≤ x = ltb-false x to e in
+      ap (λ k. getD after k 0) (omega arith) ∙ s .inside (x - to) (omega arith) ∙ none (x - to));
+  low = λ x h. s .low x (omega arith) ∙ c .low x h;
+  high = λ x h. s .high x h ∙ c .high x (omega arith);
 }

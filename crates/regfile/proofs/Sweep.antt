@@ -1,26 +1,31 @@
 -- Operations on the lent file. `sweep-starts`, `sweep-on`, `sweep-ends`: the loop over the segments of a register, for a rule. `sweep-room`:
--- its segments lie in the file, which is short. `touched`: the first segment of an operation by element. Assumes nothing.
-use mathlib.Core.Path.{_≡_, refl, sym, ap, _∙_}
+-- its segments lie in the file, which is short. `clear-starts`, `clear-room`, `clear-on`, `clear-ends`: the loop over the segments above the first.
+-- `touched`: the first segment of an operation by element. `touched-above`: the whole of its register. Assumes nothing.
+use mathlib.Core.Path.{_≡_, refl, sym, ap, subst, _∙_}
 use Prim.Native.Nat.{ℕ, _+_, _*_, _/_, _%_, _<_, _≤_}
 use native.Mathlib.Omega.{arith}
 use mathlib.Core.Bool.{Bool}
 use mathlib.Core.List.{List}
 use lib.ListN.{length, getD}
+use lib.IntN.{ℤ}
+use lib.Dec.{ltb}
+use borrow.Author.Tests.{ltb-true, ltb-false}
 use Rattle.isa.specs.declared.types.Size.{Size}
 use Rattle.isa.specs.declared.types.Form.{Form}
-use Rattle.isa.specs.Register.{pairs, window, segment}
+use Rattle.isa.specs.Register.{Bytes, pairs, window, segment, element}
 use Rattle.isa.specs.declared.types.Op.{Op}
-use Rattle.isa.specs.Meaning.{written, laneBytes, laneClamps}
+use Rattle.isa.specs.Meaning.{written, laneBytes, laneClamps, above}
 use Rattle.isa.specs.File.{byteAt}
-use Rattle.isa.specs.Segment.{bytesOf, Elements}
+use Rattle.isa.specs.Segment.{bytesOf, ElementsBy}
 use Rattle.isa.specs.Sources.{Rule, destOf, firstOf, secondOf, made}
-use Rattle.isa.proofs.File.{legal-exact}
-use Rattle.isa.proofs.Local.{Near, lane-local, clamps-local}
+use Rattle.isa.proofs.File.{cases, legal-exact}
+use Rattle.isa.proofs.Local.{Near, lane-local, clamps-local, lane-above}
 use Rattle.isa.proofs.Progress.{progress, progress-start, progress-on, progress-end}
 use Rattle.isa.proofs.Fits.{valid-fits}
 use Rattle.isa.proofs.Sources.{written-made, writes-dest, valid-below, made-local}
-use Rattle.regfile.specs.Bytes.{Loaded, Stored}
+use Rattle.regfile.specs.Bytes.{Loaded, Stored, Cleared}
 use Rattle.regfile.specs.Sweep.{Held, Placed, Lying, By, Swept, bytesFrom, Touched}
+use Rattle.regfile.proofs.Bytes.{clear-none, clear-more}
 
 -- what is loaded is near the bytes from its place on
 pub near : (file : List ℕ) (at : ℕ) (x : List ℕ) → Loaded file at 16 x → Near (bytesOf x) (bytesFrom file at)
@@ -38,7 +43,7 @@ from-segment L k g r at e = λ t i. getD g (place i t) 0
     place i = omega (arith, e)
 
 -- what an operation makes of segments of the file is what it writes there
-pub made-written : (L : ℕ) (op : Op) (k : ℕ) (g : List ℕ) (d n m : ℕ) →
+made-written : (L : ℕ) (op : Op) (k : ℕ) (g : List ℕ) (d n m : ℕ) →
     d ≡ destOf op * (L / 8) + 16 * k → n ≡ firstOf op * (L / 8) + 16 * k → m ≡ secondOf op * (L / 8) + 16 * k →
     (i : ℕ) → made op (bytesFrom g d) (bytesFrom g n) (bytesFrom g m) i ≡ written op (segment k (byteAt L g)) (destOf op) i
 made-written L op k g d n m dest first second i =
@@ -129,18 +134,87 @@ module _ (L : ℕ) (rule : Rule) (d n m : ℕ) (f : List ℕ) (lying : Lying L f
 
 -- ---- the first segment
 
--- what a kernel by element makes of three segments that are loaded, stored
-pub touched : (f : Form) (z : Size) (index : ℕ) (minus : Bool) → index < 2 * pairs z → (file : List ℕ) (d n m : ℕ) (x y w new after : List ℕ) (any : Bool) →
-    Loaded file d 16 x → Loaded file n 16 y → Loaded file m 16 w → Elements f z index minus new any x y w → Stored file d 16 new after →
-    Touched (laneBytes f z index minus) (laneClamps f z index minus) file d n m after any
-touched f z index minus small file d n m x y w new after any at-d at-n at-m made stored =
+near-same : (b : Bytes) → Near b b
+unfolding Near
+near-same b i h = refl
+
+-- what a kernel by element makes of two segments that are loaded and of the element b, stored
+pub touched : (f : Form) (z : Size) (index : ℕ) (minus : Bool) → index < 2 * pairs z → (file : List ℕ) (d n m : ℕ) (x y : List ℕ) (b : ℤ) (new after : List ℕ) (any : Bool) →
+    Loaded file d 16 x → Loaded file n 16 y → b ≡ element z (bytesFrom file m) index → ElementsBy f z b minus new any x y → Stored file d 16 new after →
+    Touched 16 (laneBytes f z index minus) (laneClamps f z index minus) file d n m after any
+touched f z index minus small file d n m x y b new after any at-d at-n at-m by stored =
+    let made = by .made (bytesFrom file m) index (sym at-m) in
     let c = near file d x at-d in
     let a = near file n y at-n in
-    let b = near file m w at-m in
+    let same = near-same (bytesFrom file m) in
     record {
       sized = stored .size;
-      inside = λ j h. stored .inside j h ∙ made .at j h ∙ lane-local z _ _ _ _ _ _ c a b f index small minus j h;
+      inside = λ j h. stored .inside j h ∙ made .at j h ∙ lane-local z _ _ _ _ _ _ c a same f index small minus j h;
       low = stored .low;
       high = stored .high;
-      flag = made .flag ∙ clamps-local z _ _ _ _ _ _ c a b f index small minus;
+      flag = made .flag ∙ clamps-local z _ _ _ _ _ _ c a same f index small minus;
     }
+
+-- a rule and a test for what was matched are those for it
+pub touched-as : {A : Type 0} (count : ℕ) (rule : A → Rule) (test : A → Bytes → Bytes → Bytes → Bool) {x known : A} (file : List ℕ) (d n m : ℕ) (after : List ℕ) (clamped : Bool) →
+    x ≡ known → Touched count (rule known) (test known) file d n m after clamped → Touched count (rule x) (test x) file d n m after clamped
+touched-as count rule test file d n m after clamped e t = subst (λ x. Touched count (rule x) (test x) file d n m after clamped) (sym e) t
+
+-- ---- the segments above it
+
+-- those before byte q have been cleared
+pub record Clearing (L d : ℕ) (f g : List ℕ) (q : ℕ) : Type 0 where
+  pub aligned : q % 16 ≡ 0
+  pub first : 16 ≤ q
+  pub bound : q ≤ L / 8
+  pub so-far : Cleared f (d + 16) (d + q) g
+
+module _ (L d : ℕ) (f : List ℕ) (held : Held L f) (dest : d + L / 8 ≤ 4 * L) where
+  pub clear-starts : (q : ℕ) → q ≡ 16 → Clearing L d f f q
+  clear-starts q e =
+      let k = legal-exact L .0 (held .ok) in
+      record { aligned = omega arith; first = omega arith; bound = omega (arith, k .whole, k .least); so-far = subst (λ n. Cleared f (d + 16) (d + n) f) (sym e) (clear-none f (d + 16)) }
+
+  module _ (g : List ℕ) (q : ℕ) (i : Clearing L d f g q) where
+    pub clear-ends : L / 8 ≤ q → Cleared f (d + 16) (d + L / 8) g
+    clear-ends h =
+        let last : q ≡ L / 8 = omega (arith, i .bound) in
+        subst (λ k. Cleared f (d + 16) (d + k) g) last (i .so-far)
+
+    module _ (more : q < L / 8) where
+      clear-within : q + 16 ≤ L / 8
+      clear-within = let whole = legal-exact L .0 (held .ok) .whole in omega (arith, i .aligned)
+
+      pub clear-room : (d + q + 16 ≤ length g) × (length g ≤ 8192)
+      clear-room =
+          let most = legal-exact L .0 (held .ok) .most in
+          let size : length g ≡ 4 * L = i .so-far .size ∙ held .sized in
+          (omega (arith, dest, clear-within), omega arith)
+
+      pub clear-on : (zeros after : List ℕ) → ((j : ℕ) → getD zeros j 0 ≡ 0) → Stored g (d + q) 16 zeros after → Clearing L d f after (q + 16)
+      clear-on zeros after none stored =
+          let next : d + q + 16 ≡ d + (q + 16) = omega arith in
+          record {
+            aligned = omega (arith, i .aligned);
+            first = omega (arith, i .first);
+            bound = clear-within;
+            so-far = subst (λ k. Cleared f (d + 16) k after) next (clear-more f (d + 16) (d + q) 16 zeros g after (omega (arith, i .first)) (i .so-far) stored none);
+          }
+
+-- the first segment stored and those above it cleared
+pub touched-above : (f : Form) (z : Size) (index : ℕ) (minus : Bool) (w : ℕ) → 16 ≤ w → (test : Bytes → Bytes → Bytes → Bool)
+    (file : List ℕ) (d n m : ℕ) (mid after : List ℕ) (clamped : Bool) →
+    Touched 16 (laneBytes f z index minus) test file d n m mid clamped → Cleared mid (d + 16) (d + w) after →
+    Touched w (laneBytes f z index minus) test file d n m after clamped
+unfolding above
+touched-above f z index minus w some test file d n m mid after clamped t c = record {
+  sized = c .size ∙ t .sized;
+  inside = λ j h. cases (ltb j 16)
+      (λ e. c .low (d + j) (omega (arith, ltb-true j 16 e)) ∙ t .inside j (ltb-true j 16 e))
+      (λ e.
+      let high : 16 ≤ j = ltb-false j 16 e in
+      c .inside (d + j) (omega arith) (omega arith) ∙ sym (lane-above f z index minus _ _ _ j high));
+  low = λ x h. c .low x (omega arith) ∙ t .low x h;
+  high = λ x h. c .high x h ∙ t .high x (omega arith);
+  flag = t .flag;
+}

@@ -50,10 +50,10 @@ pub record Within (size d n m : ℕ) : Type 0 where
 abbrev pub bytesFrom : List ℕ → ℕ → Bytes
 bytesFrom s at i = getD s (at + i) 0
 
--- `after` is the file with what the rule makes of the segments at d, n and m stored at d; `clamped` is what the test says of them
-pub record Touched (rule : Rule) (test : Bytes → Bytes → Bytes → Bool) (file : List ℕ) (d n m : ℕ) (after : List ℕ) (clamped : Bool) : Type 0 where
+-- `after` is the file with the first `count` bytes of what the rule makes of the bytes from d, n and m on stored at d; `clamped` is what the test says of them
+pub record Touched (count : ℕ) (rule : Rule) (test : Bytes → Bytes → Bytes → Bool) (file : List ℕ) (d n m : ℕ) (after : List ℕ) (clamped : Bool) : Type 0 where
   pub sized : length after ≡ length file
-  pub inside : (i : ℕ) → i < 16 → getD after (d + i) 0 ≡ rule (bytesFrom file d) (bytesFrom file n) (bytesFrom file m) i
+  pub inside : (i : ℕ) → i < count → getD after (d + i) 0 ≡ rule (bytesFrom file d) (bytesFrom file n) (bytesFrom file m) i
   pub low : (x : ℕ) → x < d → getD after x 0 ≡ getD file x 0
-  pub high : (x : ℕ) → d + 16 ≤ x → getD after x 0 ≡ getD file x 0
+  pub high : (x : ℕ) → d + count ≤ x → getD after x 0 ≡ getD file x 0
   pub flag : clamped ≡ test (bytesFrom file d) (bytesFrom file n) (bytesFrom file m)

@@ -1,7 +1,8 @@
-// Sixteen bytes of a slice, read into an array and stored from one.
-ghost use Prim.Native.Nat.{_+_, _≤_};
+// Sixteen bytes of a slice, read into an array and stored from one, and the segments above the first of a register.
+ghost use Prim.Native.Nat.{_+_, _*_, _/_, _≤_};
 ghost use lib.ListN.{length};
-ghost use Rattle.regfile.specs.Bytes.{Loaded, Stored};
+ghost use Rattle.regfile.specs.Bytes.{Loaded, Stored, Cleared};
+ghost use Rattle.regfile.specs.Sweep.{Held};
 
 // The sixteen bytes of s from `at` on. Callers stay within a register of a checked file.
 pub fn read16(s: &[u8], at: usize) -> [u8; 16]
@@ -22,5 +23,19 @@ pub fn write16(s: &mut [u8], at: usize, v: [u8; 16])
 {
     for i in 0..16 {
         s[at + i] = v[i];
+    }
+}
+
+// Zeros above the first 16 bytes of the register at d: at 128 bits there are none.
+pub fn clear_above(l: usize, file: &mut [u8], d: usize)
+    requires { ⌜ Held l (now file) ⌝ }
+    requires { ⌜ d + l / 8 ≤ 4 * l ⌝ }
+    ensures { λ _. ⌜ Cleared (now (file .entry)) (d + 16) (d + l / 8) (now (file .exit)) ⌝ }
+{
+    let w = l >> 3;
+    let mut q = 16;
+    while q < w {
+        write16(file, d + q, [0u8; 16]);
+        q += 16;
     }
 }

@@ -1,15 +1,14 @@
--- `exec::step::sqrdmlsh` meets its contract: each arm is the function of its size.
+-- `exec::step::sqrdmlsh` meets its contract.
 -- Assumes nothing.
 use borrow.Author.Needs.{needs}
-use mathlib.Core.Path.{refl, subst}
+use mathlib.Core.Path.{refl, sym, subst, _∙_}
 use Prim.Native.Nat.{_<_}
 use lib.ListN.{getD}
-use Rattle.isa.specs.declared.types.Op.{Op}
-use Rattle.isa.specs.declared.types.Size.the-variants.{H, S}
-use Rattle.isa.specs.Meaning.{advancedSimd, subtracts}
 use Rattle.isa.specs.Encode.{bySize}
+use Rattle.isa.specs.declared.types.Op.{Op}
+use Rattle.isa.specs.Meaning.{subtracts}
 use Rattle.isa.specs.Sources.{destOf, firstOf, secondOf, made, clampsIn}
-use Rattle.exec.proofs.Operation.{RegistersAt, found, touched-at, touched-executed, not-b, not-d}
+use Rattle.exec.proofs.Operation.{RegistersAt, found, touched-executed, touched-whole}
 use Rattle.exec.proofs.step.sqrdmlsh.Statement.{statement}
 use Rattle.exec.proofs.step.sqrdmlsh.Tie as tie
 
@@ -60,61 +59,37 @@ there q =
     let a = s .args in
     found (a .l) (a .file .now) (s .pre .0) (a .starts .now) (s .pre .1 .0) (Op.Sqrdmlsh (a .a)) (s .pre .1 .1) (d .wide .result) (n .wide2 .result) (m .wide3 .result) (d .wide .ensures) (n .wide2 .ensures) (m .wide3 .ensures)
 
-enum-told : tie.Need-enum-told
-enum-told c = search needs
+sqrdmlsh-requires : tie.Need-sqrdmlsh-requires
+sqrdmlsh-requires c κs =
+    let q = c .before .before in
+    let s = q .before .before .before .before .before .before .before in
+    (there q .within, (s .pre .1 .1 .size, subst (λ i. i < bySize 8 4 (s .args .a .size)) (sym (c .before .wide4 .ensures)) (s .pre .1 .1 .index)))
 
-enum-told-2 : tie.Need-enum-told-2
-enum-told-2 c = search needs
+-- where the registers were found, and what was there at the start
+abbrev placing : tie.After-sqrdmlsh → tie.After-m
+placing k = k .before .before .before
 
-elements-requires : tie.Need-elements-requires
-elements-requires c κs = there (c .before .before .before .before) .within
+abbrev start : tie.After-sqrdmlsh → tie.Start
+start k = placing k .before .before .before .before .before .before .before
 
-enum-told-3 : tie.Need-enum-told-3
-enum-told-3 c = search needs
-
-elements-requires-2 : tie.Need-elements-requires-2
-elements-requires-2 c κs = there (c .before .before .before .before) .within
-
-enum-told-4 : tie.Need-enum-told-4
-enum-told-4 c = search needs
-
-returns : tie.Need-returns
-returns c = absurd (not-b (c .before .before .before .before .before .before .before .before .before .before .pre .1 .1 .size) (c .enum-told .given .1))
+clear-above-requires : tie.Need-clear-above-requires
+clear-above-requires c κs =
+    let k = c .before .before .before in
+    let held = start k .pre .0 in
+    (record { ok = held .ok; sized = k .sqrdmlsh .ensures .sized ∙ held .sized }, there (placing k) .lying .dest)
 
 same-length : tie.Need-same-length
 same-length c = search needs
 
-returns-2 : tie.Need-returns-2
-unfolding made clampsIn advancedSimd
-returns-2 c =
-    let k = c .before .before in
-    let t = k .before .before in
-    let w = t .before .before in
-    let q = w .before in
-    let s = q .before .before .before .before .before .before .before in
+returns : tie.Need-returns
+unfolding made clampsIn
+returns c =
+    let z = c .before .before in
+    let k = z .before .before .before .before in
+    let s = start k in
     let a = s .args in
-    let size = t .enum-told2 .given .1 in
-    touched-executed (a .l) (Op.Sqrdmlsh (a .a)) (s .pre .1 .1) (a .file .now) (s .pre .0) _ _ _ (there q .placed) refl _ _
-    (touched-at (a .a) subtracts H 8 (w .wide4 .result) (a .file .now) _ _ _ _ _ size (subst (λ z. a .a .index < bySize 8 4 z) size (s .pre .1 .1 .index)) (w .wide4 .ensures) (k .elements .ensures))
-
-same-length-2 : tie.Need-same-length-2
-same-length-2 c = search needs
-
-returns-3 : tie.Need-returns-3
-unfolding made clampsIn advancedSimd
-returns-3 c =
-    let k = c .before .before in
-    let t = k .before .before in
-    let w = t .before .before in
-    let q = w .before in
-    let s = q .before .before .before .before .before .before .before in
-    let a = s .args in
-    let size = t .enum-told3 .given .1 in
-    touched-executed (a .l) (Op.Sqrdmlsh (a .a)) (s .pre .1 .1) (a .file .now) (s .pre .0) _ _ _ (there q .placed) refl _ _
-    (touched-at (a .a) subtracts S 4 (w .wide4 .result) (a .file .now) _ _ _ _ _ size (subst (λ z. a .a .index < bySize 8 4 z) size (s .pre .1 .1 .index)) (w .wide4 .ensures) (k .elements2 .ensures))
-
-returns-4 : tie.Need-returns-4
-returns-4 c = absurd (not-d (c .before .before .before .before .before .before .before .before .before .before .pre .1 .1 .size) (c .enum-told4 .given .1))
+    touched-executed (a .l) (Op.Sqrdmlsh (a .a)) (s .pre .1 .1) (a .file .now) (s .pre .0) _ _ _ (there (placing k) .placed) _ _
+    (touched-whole (a .a .form) (a .a .size) subtracts (a .l) (a .file .now) _ _ _ _ _ _ (s .pre .0) (k .before .before .wide4 .ensures) (k .sqrdmlsh .ensures) (z .clear-above .ensures))
 
 pub sqrdmlsh-spec : {M : Type 1} → statement M
 sqrdmlsh-spec =
@@ -130,15 +105,7 @@ sqrdmlsh-spec =
     mul-m
     element-copy-out-m
     wide-requires-4
-    enum-told
-    enum-told-2
-    elements-requires
-    enum-told-3
-    elements-requires-2
-    enum-told-4
-    returns
+    sqrdmlsh-requires
+    clear-above-requires
     same-length
-    returns-2
-    same-length-2
-    returns-3
-    returns-4)
+    returns)

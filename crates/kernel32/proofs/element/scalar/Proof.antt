@@ -1,11 +1,8 @@
 -- `kernel32::element::scalar` meets its contract: the stages make the definition.
 -- Assumes nothing.
 use mathlib.Core.Path.{refl}
-use Prim.Native.Nat.{_%_}
-use native.Mathlib.Omega.{arith}
 use borrow.Author.Needs.{needs}
-use mir.Syntax.{w32}
-use Rattle.integer.proofs.Word.{kept}
+use mir.Facts.{toZ-ofZ}
 use Rattle.isa.specs.declared.types.Size.the-variants.{S}
 use Rattle.isa.specs.declared.types.Form.the-variants.{Scalar}
 use Rattle.isa.specs.Register.{bits, bytes, pairs}
@@ -20,20 +17,11 @@ lanes-requires c κs = search needs
 lanes-requires-2 : tie.Need-lanes-requires-2
 lanes-requires-2 c κs = search needs
 
-lanes-requires-3 : tie.Need-lanes-requires-3
-lanes-requires-3 c κs = search needs
-
-mul-sums : tie.Need-mul-sums
-mul-sums c = search needs
-
-array-copy-out-sums : tie.Need-array-copy-out-sums
-array-copy-out-sums c = search needs
-
 sums-requires : tie.Need-sums-requires
 sums-requires c κs = search needs
 
 narrowed-requires : tie.Need-narrowed-requires
-narrowed-requires c κs = search needs
+narrowed-requires c κs = c .sums .ensures .1
 
 bytes-requires : tie.Need-bytes-requires
 bytes-requires c κs = search needs
@@ -46,12 +34,11 @@ unfolding laneCount pairs bits bytes
 returns c =
     let b = c .before in
     let s = b .before .before in
-    let y = s .before .before in
+    let y = s .before in
     let x = y .before in
-    let z = x .before in
-    let a = z .before .args in
-    elements Scalar S (a .index % 4) (a .minus) (omega arith) refl (x .lanes2 .ensures) (y .lanes3 .ensures) (z .lanes .ensures) (kept w32 _ (s .before .sums-arg .given))
-    (s .sums .ensures) (b .before .narrowed .ensures) (b .bytes .ensures) (c .any-overflow .ensures)
+    let a = x .before .args in
+    elements Scalar S (a .minus) refl (x .lanes .ensures) (y .lanes2 .ensures) (toZ-ofZ (x .before .fits .b))
+    (s .sums .ensures .0) (b .before .narrowed .ensures) (b .bytes .ensures) (c .any-overflow .ensures)
 
 pub scalar-spec : {M : Type 1} → statement M
 scalar-spec =
@@ -59,9 +46,6 @@ scalar-spec =
     (tie.spec
     lanes-requires
     lanes-requires-2
-    lanes-requires-3
-    mul-sums
-    array-copy-out-sums
     sums-requires
     narrowed-requires
     bytes-requires

@@ -1,8 +1,27 @@
--- `kernel32::element::sqrdmlah` meets its contract: by form.
+-- `kernel32::element::sqrdmlah` meets its contract: by form, with the element at the index.
 -- Assumes nothing.
+use mathlib.Core.Path.{_≡_, sym, _∙_}
+use Prim.Native.Nat.{_%_}
+use native.Mathlib.Omega.{arith}
 use borrow.Author.Needs.{needs}
+use mir.Syntax.{w32}
+use mir.Val.{toZ, ofZ}
+use Rattle.integer.proofs.Word.{kept}
+use Rattle.isa.specs.declared.types.Size.the-variants.{S}
+use Rattle.isa.specs.Register.{pairs, element}
+use Rattle.isa.specs.Segment.{bytesOf}
+use Rattle.isa.specs.Stage.{lane}
 use Rattle.kernel32.proofs.element.sqrdmlah.Statement.{statement}
 use Rattle.kernel32.proofs.element.sqrdmlah.Tie as tie
+
+lanes-requires : tie.Need-lanes-requires
+lanes-requires c κs = search needs
+
+mul-b : tie.Need-mul-b
+mul-b c = search needs
+
+array-copy-out-b : tie.Need-array-copy-out-b
+array-copy-out-b c = search needs
 
 enum-told : tie.Need-enum-told
 enum-told c = search needs
@@ -22,19 +41,32 @@ enum-told-3 c = search needs
 vector128-requires : tie.Need-vector128-requires
 vector128-requires c κs = search needs
 
+-- what b reads
+at-index : (q : tie.After-b) →
+    let z = q .before in
+    let a = z .before .args in
+    element S (bytesOf (a .m)) (a .index % 4) ≡ toZ w32 (ofZ w32 (lane (z .lanes .result) (a .index % 4)))
+unfolding pairs
+at-index q =
+    let z = q .before in
+    sym (kept w32 _ (q .b .given) ∙ z .lanes .ensures .at (z .before .args .index % 4) (omega arith))
+
 returns : tie.Need-returns
-returns c = rw (c .before .enum-told .given .1) (c .scalar .ensures)
+returns c = let q = c .before .before .before in rw (c .before .enum-told .given .1) (c .scalar .ensures .made _ _ (at-index q))
 
 returns-2 : tie.Need-returns-2
-returns-2 c = rw (c .before .enum-told2 .given .1) (c .vector64 .ensures)
+returns-2 c = let q = c .before .before .before in rw (c .before .enum-told2 .given .1) (c .vector64 .ensures .made _ _ (at-index q))
 
 returns-3 : tie.Need-returns-3
-returns-3 c = rw (c .before .enum-told3 .given .1) (c .vector128 .ensures)
+returns-3 c = let q = c .before .before .before in rw (c .before .enum-told3 .given .1) (c .vector128 .ensures .made _ _ (at-index q))
 
 pub sqrdmlah-spec : {M : Type 1} → statement M
 sqrdmlah-spec =
     tie.close
     (tie.spec
+    lanes-requires
+    mul-b
+    array-copy-out-b
     enum-told
     scalar-requires
     enum-told-2

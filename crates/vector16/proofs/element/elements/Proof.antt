@@ -1,75 +1,38 @@
--- `vector16::element::elements` meets its contract: each arm is the function of its form.
+-- `vector16::element::elements` meets its contract: each family has its function.
 -- Assumes nothing.
 use borrow.Author.Needs.{needs}
-use mathlib.Core.Path.{_≡_, sym, subst}
-use mathlib.Core.Bool.{Bool}
-use mathlib.Core.List.{List}
-use Prim.Native.Nat.{ℕ, _%_}
-use Rattle.isa.specs.declared.types.Form.{Form}
 use Rattle.isa.specs.declared.types.Size.the-variants.{H}
 use Rattle.isa.specs.Meaning.{laneBytes, laneClamps}
-use Rattle.regfile.specs.Sweep.{Touched}
+use Rattle.regfile.proofs.Sweep.{touched-as}
 use Rattle.vector16.proofs.element.elements.Statement.{statement}
 use Rattle.vector16.proofs.element.elements.Tie as tie
 
-enum-told : tie.Need-enum-told
-enum-told c = search needs
+sqrdmlsh-requires : tie.Need-sqrdmlsh-requires
+sqrdmlsh-requires c κs = search needs
 
-scalar-requires : tie.Need-scalar-requires
-scalar-requires c κs = search needs
-
-enum-told-2 : tie.Need-enum-told-2
-enum-told-2 c = search needs
-
-vector64-requires : tie.Need-vector64-requires
-vector64-requires c κs = search needs
-
-enum-told-3 : tie.Need-enum-told-3
-enum-told-3 c = search needs
-
-vector128-requires : tie.Need-vector128-requires
-vector128-requires c κs = search needs
-
--- the form that was matched
-by-form : (s : tie.Start) {f : Form} {after : List ℕ} {r : Bool} →
-    let a = s .args in
-    a .form ≡ f → Touched (laneBytes f H (a .index % 8) (a .minus)) (laneClamps f H (a .index % 8) (a .minus)) (a .file .now) (a .d) (a .n) (a .m) after r →
-    Touched (laneBytes (a .form) H (a .index % 8) (a .minus)) (laneClamps (a .form) H (a .index % 8) (a .minus)) (a .file .now) (a .d) (a .n) (a .m) after r
-by-form s {after} {r} e t =
-    let a = s .args in
-    subst (λ f. Touched (laneBytes f H (a .index % 8) (a .minus)) (laneClamps f H (a .index % 8) (a .minus)) (a .file .now) (a .d) (a .n) (a .m) after r) (sym e) t
+sqrdmlah-requires : tie.Need-sqrdmlah-requires
+sqrdmlah-requires c κs = search needs
 
 same-length : tie.Need-same-length
 same-length c = search needs
 
 returns : tie.Need-returns
-returns c = let k = c .before .before in by-form (k .before .before .before .before .before) (k .before .before .enum-told .given .1) (k .scalar .ensures)
+returns c =
+    let k = c .before .before in
+    let t = k .before .before in
+    let a = t .before .before .args in
+    touched-as 16 (laneBytes (a .form) H (a .index)) (laneClamps (a .form) H (a .index)) (a .file .now) (a .d) (a .n) (a .m) _ _ (t .if1 .taken) (k .sqrdmlsh .ensures)
 
 same-length-2 : tie.Need-same-length-2
 same-length-2 c = search needs
 
 returns-2 : tie.Need-returns-2
-returns-2 c = let k = c .before .before in by-form (k .before .before .before .before .before) (k .before .before .enum-told2 .given .1) (k .vector64 .ensures)
-
-same-length-3 : tie.Need-same-length-3
-same-length-3 c = search needs
-
-returns-3 : tie.Need-returns-3
-returns-3 c = let k = c .before .before in by-form (k .before .before .before .before .before) (k .before .before .enum-told3 .given .1) (k .vector128 .ensures)
+returns-2 c =
+    let k = c .before .before in
+    let t = k .before .before in
+    let a = t .before .before .args in
+    touched-as 16 (laneBytes (a .form) H (a .index)) (laneClamps (a .form) H (a .index)) (a .file .now) (a .d) (a .n) (a .m) _ _ (t .if1 .left) (k .sqrdmlah .ensures)
 
 pub elements-spec : {M : Type 1} → statement M
 elements-spec =
-    tie.close
-    (tie.spec
-    enum-told
-    scalar-requires
-    enum-told-2
-    vector64-requires
-    enum-told-3
-    vector128-requires
-    same-length
-    returns
-    same-length-2
-    returns-2
-    same-length-3
-    returns-3)
+    tie.close (tie.spec sqrdmlsh-requires sqrdmlah-requires same-length returns same-length-2 returns-2)

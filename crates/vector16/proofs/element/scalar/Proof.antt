@@ -2,7 +2,10 @@
 -- Assumes nothing.
 use borrow.Author.Needs.{needs}
 use native.Mathlib.Omega.{arith}
-use Prim.Native.Nat.{ℕ, _*_, _%_, _<_}
+use mir.Syntax.{w16}
+use Prim.Native.Nat.{ℕ, _*_, _<_}
+use Rattle.integer.proofs.Word.{kept}
+use mathlib.Core.Path.{_∙_}
 use Rattle.isa.specs.declared.types.Form.the-variants.{Scalar}
 use Rattle.isa.specs.declared.types.Size.the-variants.{H}
 use Rattle.isa.specs.Register.{pairs}
@@ -16,8 +19,8 @@ read16-requires c κs = search needs
 read16-requires-2 : tie.Need-read16-requires-2
 read16-requires-2 c κs = search needs
 
-read16-requires-3 : tie.Need-read16-requires-3
-read16-requires-3 c κs = search needs
+element-at-requires : tie.Need-element-at-requires
+element-at-requires c κs = search needs
 
 scalar-requires : tie.Need-scalar-requires
 scalar-requires c κs = search needs
@@ -28,22 +31,22 @@ write16-requires c κs = search needs
 same-length : tie.Need-same-length
 same-length c = search needs
 
-small : (index : ℕ) → index % 8 < 2 * pairs H
+small : (index : ℕ) → index < 8 → index < 2 * pairs H
 unfolding pairs
-small index = omega arith
+small index h = omega arith
 
 returns : tie.Need-returns
 returns c =
     let w = c .before .before in
     let k = w .before .before .before in
-    let r3 = k .before in
-    let r2 = r3 .before .before in
+    let b = k .before in
+    let r2 = b .before .before in
     let r1 = r2 .before .before in
     let s = r1 .before .before .before in
     let a = s .args in
-    touched Scalar H _ (a .minus) (small (a .index)) (a .file .now) (a .d) (a .n) (a .m) (r1 .read16 .result) (r2 .read162 .result) (r3 .read163 .result)
-    (k .scalar .result .bytes) (w .write16 .last .0) (k .scalar .result .clamped) (r1 .read16 .ensures) (r2 .read162 .ensures) (r3 .read163 .ensures)
-    (k .scalar .ensures) (w .write16 .ensures)
+    touched Scalar H (a .index) (a .minus) (small (a .index) (s .pre .1)) (a .file .now) (a .d) (a .n) (a .m) (r1 .read16 .result) (r2 .read162 .result) _
+    (k .scalar .result .bytes) (w .write16 .last .0) (k .scalar .result .clamped) (r1 .read16 .ensures) (r2 .read162 .ensures)
+    (kept w16 _ (b .element-at .ok) ∙ b .element-at .ensures) (k .scalar .ensures) (w .write16 .ensures)
 
 pub scalar-spec : {M : Type 1} → statement M
 scalar-spec =
@@ -51,7 +54,7 @@ scalar-spec =
     (tie.spec
     read16-requires
     read16-requires-2
-    read16-requires-3
+    element-at-requires
     scalar-requires
     write16-requires
     same-length
