@@ -10,7 +10,8 @@
  * 0. A part that a call writes to (a pointer with no const) overlaps no other part
  * of the same call. No call keeps state, so threads may call at the same time.
  *
- * Link with libcapi.a, which './kob staticlib' builds (x86-64 Linux).
+ * Link with libcapi.a, which './kob staticlib' builds (x86-64 Linux). Of the C
+ * library it needs memset alone.
  */
 #ifndef KOBBESKUIM_H
 #define KOBBESKUIM_H

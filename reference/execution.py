@@ -1,7 +1,7 @@
 #!/usr/bin/env python3
 """The independent model of the register file, the step and the run, for any legal length.
 
-Written from document 01 alone, over the models of words and lanes. A file is bytes and is never
+Written from document 01 and request A2 alone, over the models of words and lanes. A file is bytes and is never
 changed in place. Run as a program it checks itself, demand 3 on random programs included.
 """
 

@@ -277,13 +277,13 @@ class Maker:
                 yield one(length, size, n)
 
     def cleared(self):
-        """Forms by element at every length, into the first and the last register, and into a source."""
+        """Forms by element at every length, each into the first and the last register and into its sources."""
         ops = [op for op in self.operations if op.family in ELEMENT and op.index == 0]
         for length, (at, op) in product(LENGTHS, enumerate(ops)):
             most = model.limits_of(op.family, op.size)
             index = self.source.below(most[3] + 1)
             n, m = 16 + self.source.below(15), self.source.below(most[2]) + 1
-            d, n, m = ((0, n, m), (31, n, m), (n, n, m), (m, n, m), (m, m, m), (31, 30, 0))[at % 6]
+            d, n, m = ((0, n, m), (31, n, m), (n, n, m), (m, n, m), (m, m, m), (31, 30, 0))[(at + length // 128) % 6]
             word = self.word(op._replace(destination=d, first=n, second=m, index=index))
             yield self.seeded(length, [word])
 

@@ -1,6 +1,6 @@
 #!/bin/bash
-# Builds each example against the archive, runs it, and compares what it prints. The archive is built
-# by './kob staticlib' where it is not there. Progress goes to standard error.
+# Builds each example against the archive, runs it, and compares what it prints; and looks at what the
+# archive asks for. It is built by './kob staticlib' where it is not there. Progress goes to standard error.
 cd "$(dirname "$0")/.." || exit 1
 archive=target/staticlib/libcapi.a
 [ -f "$archive" ] || ./kob staticlib >/dev/null || exit 1
@@ -36,6 +36,13 @@ if command -v pkg-config >/dev/null; then
 fi
 example rust 'kobbeskuim: every call answers as it should' \
     rustc --edition 2021 -O -D warnings -A dead_code examples/rust/kobbeskuim.rs -L target/staticlib -l static=capi
+
+# What the archive asks for beside what it has.
+asked=$(nm "$archive" | awk '$1 == "U" { asked[$2] } NF == 3 { has[$3] } END { for (s in asked) if (!(s in has)) print s }')
+if [ "$asked" != memset ]; then
+    printf 'capi: the archive asks for\n%s\nand not for memset alone\n' "$asked" >&2
+    failed=$((failed + 1))
+fi
 
 echo "capi: $count examples, $failed failed"
 [ "$failed" = 0 ]

@@ -1,5 +1,5 @@
 #!/usr/bin/env python3
-"""Checks of the independent model alone: its parts' own, and document 01's P8 to P12 as whole runs.
+"""Checks of the independent model alone: its parts' own, document 01's P8 to P12 as whole runs, and what is cleared.
 
     python3 tests/execution.py
 """

@@ -1,6 +1,6 @@
 -- One operation on the lent file. `found`: its registers by the table of their starts. `swept-executed`: an SVE2 operation.
--- `touched-executed`: one by element. `turns`: the rotations of CADD and SQCADD. `swept-at`,
--- `touched-whole`, `worked-as`: what was matched. `not-b`, `not-d`: sizes that are not handed over. Assumes nothing.
+-- `touched-executed`: one by element. `touched-whole`: its first segment stored and the others cleared. `turns`: the rotations of CADD and SQCADD.
+-- `by-limit`: an index below its limit, as a loop takes it. `swept-at`, `worked-as`: what was matched. `not-b`, `not-d`: sizes that are not handed over. Assumes nothing.
 use mathlib.Core.Path.{_≡_, refl, sym, ap, subst, _∙_}
 use Prim.Native.Nat.{ℕ, _+_, _*_, _/_, _%_, _<_, _≤_}
 use native.Mathlib.Omega.{arith}
@@ -14,7 +14,7 @@ use Rattle.isa.specs.declared.types.Rotation.{Rotation}
 use Rattle.isa.specs.declared.types.Op.{Op}
 use Rattle.isa.specs.Register.{Bytes}
 use Rattle.isa.specs.declared.types.Form.{Form}
-use Rattle.isa.specs.Meaning.{written, laneBytes, laneClamps, advancedSimd}
+use Rattle.isa.specs.Meaning.{laneBytes, laneClamps, advancedSimd}
 use Rattle.isa.specs.File.{byteAt}
 use Rattle.isa.specs.Valid.{Valid}
 use Rattle.isa.specs.Encode.{addRotation, halfOrSingle}
@@ -23,10 +23,10 @@ use Rattle.isa.specs.Sources.{Rule, destOf, firstOf, secondOf, made, clampsIn}
 use Rattle.isa.proofs.File.{legal-exact}
 use Rattle.isa.proofs.Local.{flag-kept}
 use Rattle.isa.proofs.Progress.{register-stored}
-use Rattle.isa.proofs.Sources.{written-made, writes-dest, flag-made, valid-below, or-false}
+use Rattle.isa.proofs.Sources.{made-of, writes-dest, flag-made, valid-below, or-false}
 use Rattle.regfile.specs.Bytes.{Cleared}
 use Rattle.regfile.specs.Place.{Starts}
-use Rattle.regfile.specs.Sweep.{Held, Placed, Lying, By, Swept, Within, bytesFrom, Touched}
+use Rattle.regfile.specs.Sweep.{Held, Placed, Lying, Swept, Within, bytesFrom, Touched}
 use Rattle.regfile.proofs.Sweep.{touched-as, touched-above}
 use Rattle.exec.specs.Step.{Executed}
 
@@ -84,9 +84,11 @@ module _ (L : ℕ) (op : Op) (valid : Valid op) (f : List ℕ) (held : Held L f)
     flag = λ qc. flag-kept op sve (byteAt L f) qc ∙ or-false qc;
   }
 
+module _ (L : ℕ) (op : Op) (f : List ℕ) (held : Held L f) (d n m : ℕ) (p : Placed (L / 8) op d n m) where
   pub touched-executed : (after : List ℕ) (clamped : Bool) → Touched (L / 8) (made op) (clampsIn op) f d n m after clamped → Executed L op f after clamped
   touched-executed after clamped t = record {
-    left = register-stored L (held .ok) op (destOf op) (writes-dest op) f after (t .sized ∙ held .sized) stored
+    left = register-stored L (held .ok) op (destOf op) (writes-dest op) f after (t .sized ∙ held .sized)
+        (λ j h. ap (λ x. getD after x 0) (omega (arith, p .dest)) ∙ t .inside j h ∙ made-of op (byteAt L f) c a b j)
         (λ x h. t .low x (omega (arith, p .dest)))
         (λ x h. t .high x (omega (arith, p .dest)));
     flag = λ qc. flag-made op (byteAt L f) qc ∙ ap (λ b. qc || b) (sym (t .flag ∙ (λ i. clampsIn op (c i) (a i) (b i))));
@@ -101,10 +103,14 @@ module _ (L : ℕ) (op : Op) (valid : Valid op) (f : List ℕ) (held : Held L f)
       b : bytesFrom f m ≡ byteAt L f (secondOf op)
       b = from-start L f (secondOf op) m (p .second)
 
-      stored : (j : ℕ) → j < L / 8 → getD after (destOf op * (L / 8) + j) 0 ≡ written op (byteAt L f) (destOf op) j
-      stored j h =
-          ap (λ x. getD after x 0) (omega (arith, p .dest)) ∙ t .inside j h ∙ (λ i. made op (c i) (a i) (b i) j)
-          ∙ sym (ap (λ g. g j) (written-made op (byteAt L f) (destOf op)))
+-- a form by element with the index that the code has: its first segment stored, and the others cleared
+pub touched-whole : (f : Form) (z : Size) (minus : Bool) {index known : ℕ} (L : ℕ) (file : List ℕ) (d n m : ℕ) (mid after : List ℕ) (r : Bool) → Held L file → known ≡ index →
+    Touched 16 (laneBytes f z known minus) (laneClamps f z known minus) file d n m mid r → Cleared mid (d + 16) (d + L / 8) after →
+    Touched (L / 8) (laneBytes f z index minus) (laneClamps f z index minus) file d n m after r
+touched-whole f z minus {index} L file d n m mid after r held e t cleared =
+    let k = legal-exact L .0 (held .ok) in
+    touched-above f z index minus (L / 8) (omega (arith, k .whole, k .least)) (laneClamps f z index minus) file d n m mid after r
+    (touched-as 16 (λ i. laneBytes f z i minus) (λ i. laneClamps f z i minus) file d n m mid r (sym e) t) cleared
 
 -- ---- what a valid operation has
 
@@ -131,15 +137,6 @@ not-d h e = false≢true (subst (λ z. halfOrSingle z ≡ true) e h)
 pub swept-at : {A : Type 0} (L : ℕ) (rule : A → Rule) {x known : A} (f : List ℕ) (d n m : ℕ) (after : List ℕ) → x ≡ known →
     Swept L (rule known) f d n m after → Swept L (rule x) f d n m after
 swept-at L rule f d n m after e s = subst (λ x. Swept L (rule x) f d n m after) (sym e) s
-
--- a form by element with the index that the code has: its first segment stored, and the others cleared
-pub touched-whole : (f : Form) (z : Size) (minus : Bool) {index known : ℕ} (L : ℕ) (file : List ℕ) (d n m : ℕ) (mid after : List ℕ) (r : Bool) → Held L file → known ≡ index →
-    Touched 16 (laneBytes f z known minus) (laneClamps f z known minus) file d n m mid r → Cleared mid (d + 16) (d + L / 8) after →
-    Touched (L / 8) (laneBytes f z index minus) (laneClamps f z index minus) file d n m after r
-touched-whole f z minus {index} L file d n m mid after r held e t cleared =
-    let k = legal-exact L .0 (held .ok) in
-    touched-above f z index minus (L / 8) (omega (arith, k .whole, k .least)) (laneClamps f z index minus) file d n m mid after r
-    (touched-as 16 (λ i. laneBytes f z i minus) (λ i. laneClamps f z i minus) file d n m mid r (sym e) t) cleared
 
 pub worked-as : (L : ℕ) {op known : Op} (f after : List ℕ) (r : Bool) → op ≡ known → Executed L known f after r → Executed L op f after r
 worked-as L f after r e w = subst (λ o. Executed L o f after r) (sym e) w

@@ -1,4 +1,4 @@
-// The loops over registers, by family and size. Callers have checked the length and where the registers stand.
+// The loops over registers, and the first segment by element, by family and size. Callers have checked the length and where the registers stand.
 ghost use mathlib.Core.Path.{_≡_};
 ghost use mathlib.Core.Bool.{true, false};
 ghost use Prim.Native.Nat.{_<_};

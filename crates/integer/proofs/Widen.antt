@@ -106,8 +106,8 @@ module _ {n w : Width} {q : ℕ} (r : Wide n w q) where
         (upper-abs (2 ^ hbits n) q q-below (signedBy minus (a *ℤ b)) (rw (abs-signed minus (a *ℤ b)) (product-abs a b (natAbs-le a (f .sfits)) (natAbs-le b (g .sfits)))))
 
     -- the lane picks the end of the clamp
-    pub toward-lane : {c s : ℤ} → s ≡ rounded (bits n) c (signedBy minus (a *ℤ b)) → Toward (bits n) s c
-    toward-lane {c} e =
+    pub toward-old-lane : {c s : ℤ} → s ≡ rounded (bits n) c (signedBy minus (a *ℤ b)) → Toward (bits n) s c
+    toward-old-lane {c} e =
         rw (e, round-apart (bits n) c (signedBy minus (a *ℤ b)), +ℤ-comm c (rounded (bits n) (pos 0) (signedBy minus (a *ℤ b))))
         (toward (bits n) (rounded (bits n) (pos 0) (signedBy minus (a *ℤ b))) c upper-small)
 
@@ -157,8 +157,8 @@ module _ {n w : Width} {q : ℕ} (r : Wide n w q) where
   toward-lanes {c} {b} minus f g h e = rw (kept w _ h ∙ e, read-cast f) (toward-addend (bits n) minus c b (abs-lane g))
 
   -- what the code reads of a number and of a lane that was widened
-  pub lane-toward : {s x : ℤ} → mag s < 2 ^ hbits w → mag x < 2 ^ hbits n → Toward (bits n) s x → Toward (bits n) (toZ w (ofZ w s)) (toZ w (ofZ w (toZ n (ofZ n x))))
-  lane-toward h l t = rw (kept w _ h, read-cast (record { sfits = l })) t
+  pub widened-toward : {s x : ℤ} → mag s < 2 ^ hbits w → mag x < 2 ^ hbits n → Toward (bits n) s x → Toward (bits n) (toZ w (ofZ w s)) (toZ w (ofZ w (toZ n (ofZ n x))))
+  widened-toward h l t = rw (kept w _ h, read-cast (record { sfits = l })) t
 
   -- the rounded sum of lanes that fit
   pub rounded-sum : {c a b s : ℤ} (minus : Bool) → SFits n c → SFits n a → SFits n b → s ≡ rounded (bits n) (toZ n (ofZ n c)) (signedBy minus (toZ n (ofZ n a) *ℤ toZ n (ofZ n b))) → s ≡ rounded (bits n) c (signedBy minus (a *ℤ b))

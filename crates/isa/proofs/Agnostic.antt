@@ -34,7 +34,7 @@ module _ (k count : ℕ) (r₁ r₂ : Regs) (same : (r j : ℕ) → j < 16 * cou
   unfolding Alike Near
   first-alike low h r i l = ap (r₁ r) (omega arith) ∙ same r i (omega arith)
 
-  -- an Advanced SIMD operation works on the first segment alone, so k has to be 0
+  -- an Advanced SIMD operation treats the first segment otherwise than the others, so k has to be 0
   module _ (op : Op) (fits : Fits op) (low : advancedSimd op ≡ true → k ≡ 0) where
     sve-same : advancedSimd op ≡ false → (r j : ℕ) → j < 16 * count → step op r₁ r (16 * k + j) ≡ step op r₂ r j
     sve-same sve r j h =

@@ -133,8 +133,8 @@ towards-more {z} {s} {x} t e h v new = record { at = λ k l. by-place k l (ℕ-d
     by-place k l (no p) = rw (getD-set-other s e k v (pos 0) p) (t .at k l)
 
 -- what the code reads of a sum and of its lane
-pub read-toward : (w k : Width) (N : ℕ) {s x : ℤ} → mag s < 2 ^ hbits k → mag x < 2 ^ hbits w → Toward N s (toZ w (ofZ w x)) → Toward N (toZ k (ofZ k s)) x
-read-toward w k N {s} {x} hs hx t = rw (kept k s hs) (subst (Toward N s) (kept w x hx) t)
+pub stored-toward : (w k : Width) (N : ℕ) {s x : ℤ} → mag s < 2 ^ hbits k → mag x < 2 ^ hbits w → Toward N s (toZ w (ofZ w x)) → Toward N (toZ k (ofZ k s)) x
+stored-toward w k N {s} {x} hs hx t = rw (kept k s hs) (subst (Toward N s) (kept w x hx) t)
 
 -- ---- the flag
 

@@ -194,8 +194,11 @@ module _ (z : Size) (c₁ n₁ m₁ c₂ n₂ m₂ : Bytes) (c : Near c₁ c₂)
 
   pub lane-local : (l : Form) (index : ℕ) → index < 2 * pairs z → (minus : Bool) →
       (i : ℕ) → i < 16 → laneBytes l z index minus c₁ n₁ m₁ i ≡ laneBytes l z index minus c₂ n₂ m₂ i
-  unfolding laneBytes
-  lane-local l index small minus i h = rw (value-local index small minus (i / bytes z) (lane-small z i h))
+  unfolding laneBytes Near
+  lane-local l index small minus i h =
+      let lane-same = value-local index small minus (i / bytes z) (lane-small z i h) in
+      let byte-same = c i h in
+      cc
 
   pub clamps-local : (l : Form) (index : ℕ) → index < 2 * pairs z → (minus : Bool) →
       laneClamps l z index minus c₁ n₁ m₁ ≡ laneClamps l z index minus c₂ n₂ m₂

@@ -1,7 +1,7 @@
--- An operation by its destination and sources is the operation of the definitions. `written-made`: the bytes it writes. `writes-dest`: the register it
+-- An operation by its destination and sources is the operation of the definitions. `written-made`, `made-of`: the bytes it writes. `writes-dest`: the register it
 -- writes. `flag-made`: the flag it sets. `valid-below`: its registers exist. `made-local` and `clamped-local`: it reads 16 bytes of each alone.
 -- Assumes nothing.
-use mathlib.Core.Path.{_≡_, refl}
+use mathlib.Core.Path.{_≡_, refl, sym, ap, _∙_}
 use Prim.Native.Nat.{ℕ, _<_}
 use mathlib.Core.Bool.{Bool, true, false, _||_}
 use lib.Dec.{eqb}
@@ -23,6 +23,11 @@ written-made (CmlaIndexed o) regs r = refl
 written-made (SqrdcmlahIndexed o) regs r = refl
 written-made (Sqrdmlah o) regs r = refl
 written-made (Sqrdmlsh o) regs r = refl
+
+-- of bytes that are those of its registers
+pub made-of : (op : Op) (regs : Regs) {c n m : Bytes} → c ≡ regs (destOf op) → n ≡ regs (firstOf op) → m ≡ regs (secondOf op) →
+    (i : ℕ) → made op c n m i ≡ written op regs (destOf op) i
+made-of op regs c n m i = (λ t. made op (c t) (n t) (m t) i) ∙ sym (ap (λ f. f i) (written-made op regs (destOf op)))
 
 pub writes-dest : (op : Op) (r : ℕ) → writes op r ≡ eqb r (destOf op)
 unfolding writes destOf

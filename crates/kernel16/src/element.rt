@@ -1,6 +1,5 @@
 // The families by element. Each form has a function, so that its number of lanes is a constant in the loops.
 ghost use Prim.Native.Nat.{_%_};
-ghost use Rattle.isa.specs.Meaning.{adds, subtracts};
 ghost use Rattle.isa.specs.Segment.{bytesOf, Elements, ElementsBy};
 use crate::segment::any_overflow;
 use crate::segment::bytes;
@@ -44,28 +43,22 @@ pub fn vector128(c: [u8; 16], n: [u8; 16], b: i16, minus: bool) -> Saturated
     }
 }
 
-// SQRDMLAH by element on the first 16 bytes.
-pub fn sqrdmlah(c: [u8; 16], n: [u8; 16], m: [u8; 16], index: usize, form: Form) -> Saturated
-    ensures { λ r. ⌜ Elements form Size.H (index % 8) adds (r .bytes) (r .clamped) c n (bytesOf m) ⌝ }
+// SQRDMLAH by element on the first 16 bytes, or SQRDMLSH with `minus`. The index is taken modulo the 8 elements of a segment.
+pub fn elements(
+    c: [u8; 16],
+    n: [u8; 16],
+    m: [u8; 16],
+    index: usize,
+    form: Form,
+    minus: bool,
+) -> Saturated
+    ensures { λ r. ⌜ Elements form Size.H (index % 8) minus (r .bytes) (r .clamped) c n (bytesOf m) ⌝ }
 {
     let z = lanes(m);
     let b = z[index % 8];
     match form {
-        Form::Scalar => scalar(c, n, b, false),
-        Form::Vector64 => vector64(c, n, b, false),
-        Form::Vector128 => vector128(c, n, b, false),
-    }
-}
-
-// SQRDMLSH by element on the first 16 bytes.
-pub fn sqrdmlsh(c: [u8; 16], n: [u8; 16], m: [u8; 16], index: usize, form: Form) -> Saturated
-    ensures { λ r. ⌜ Elements form Size.H (index % 8) subtracts (r .bytes) (r .clamped) c n (bytesOf m) ⌝ }
-{
-    let z = lanes(m);
-    let b = z[index % 8];
-    match form {
-        Form::Scalar => scalar(c, n, b, true),
-        Form::Vector64 => vector64(c, n, b, true),
-        Form::Vector128 => vector128(c, n, b, true),
+        Form::Scalar => scalar(c, n, b, minus),
+        Form::Vector64 => vector64(c, n, b, minus),
+        Form::Vector128 => vector128(c, n, b, minus),
     }
 }

@@ -132,8 +132,8 @@ fn sqrdmlah(
     m: [u8; 16],
 ) -> Saturated {
     match size {
-        Size::H => kernel16::element::sqrdmlah(c, n, m, index, form),
-        _ => kernel32::element::sqrdmlah(c, n, m, index, form),
+        Size::H => kernel16::element::elements(c, n, m, index, form, false),
+        _ => kernel32::element::elements(c, n, m, index, form, false),
     }
 }
 
@@ -146,8 +146,8 @@ fn sqrdmlsh(
     m: [u8; 16],
 ) -> Saturated {
     match size {
-        Size::H => kernel16::element::sqrdmlsh(c, n, m, index, form),
-        _ => kernel32::element::sqrdmlsh(c, n, m, index, form),
+        Size::H => kernel16::element::elements(c, n, m, index, form, true),
+        _ => kernel32::element::elements(c, n, m, index, form, true),
     }
 }
 

@@ -1,10 +1,10 @@
 -- Operations on the lent file. `sweep-starts`, `sweep-on`, `sweep-ends`: the loop over the segments of a register, for a rule. `sweep-room`:
 -- its segments lie in the file, which is short. `clear-starts`, `clear-room`, `clear-on`, `clear-ends`: the loop over the segments above the first.
--- `touched`: the first segment of an operation by element. `touched-above`: the whole of its register. Assumes nothing.
+-- `touched`: the first segment of an operation by element. `touched-as`: what was matched. `touched-above`: the whole of its register. Assumes nothing.
 use mathlib.Core.Path.{_≡_, refl, sym, ap, subst, _∙_}
 use Prim.Native.Nat.{ℕ, _+_, _*_, _/_, _%_, _<_, _≤_}
 use native.Mathlib.Omega.{arith}
-use mathlib.Core.Bool.{Bool}
+use mathlib.Core.Bool.{Bool, true}
 use mathlib.Core.List.{List}
 use lib.ListN.{length, getD}
 use lib.IntN.{ℤ}
@@ -15,16 +15,16 @@ use Rattle.isa.specs.declared.types.Form.{Form}
 use Rattle.isa.specs.Register.{Bytes, pairs, window, segment, element}
 use Rattle.isa.specs.declared.types.Op.{Op}
 use Rattle.isa.specs.Meaning.{written, laneBytes, laneClamps, above}
-use Rattle.isa.specs.File.{byteAt}
+use Rattle.isa.specs.File.{legal, byteAt}
 use Rattle.isa.specs.Segment.{bytesOf, ElementsBy}
 use Rattle.isa.specs.Sources.{Rule, destOf, firstOf, secondOf, made}
 use Rattle.isa.proofs.File.{cases, legal-exact}
 use Rattle.isa.proofs.Local.{Near, lane-local, clamps-local, lane-above}
 use Rattle.isa.proofs.Progress.{progress, progress-start, progress-on, progress-end}
 use Rattle.isa.proofs.Fits.{valid-fits}
-use Rattle.isa.proofs.Sources.{written-made, writes-dest, valid-below, made-local}
+use Rattle.isa.proofs.Sources.{made-of, writes-dest, valid-below, made-local}
 use Rattle.regfile.specs.Bytes.{Loaded, Stored, Cleared}
-use Rattle.regfile.specs.Sweep.{Held, Placed, Lying, By, Swept, bytesFrom, Touched}
+use Rattle.regfile.specs.Sweep.{Held, Lying, By, Swept, bytesFrom, Touched}
 use Rattle.regfile.proofs.Bytes.{clear-none, clear-more}
 
 -- what is loaded is near the bytes from its place on
@@ -46,13 +46,14 @@ from-segment L k g r at e = λ t i. getD g (place i t) 0
 made-written : (L : ℕ) (op : Op) (k : ℕ) (g : List ℕ) (d n m : ℕ) →
     d ≡ destOf op * (L / 8) + 16 * k → n ≡ firstOf op * (L / 8) + 16 * k → m ≡ secondOf op * (L / 8) + 16 * k →
     (i : ℕ) → made op (bytesFrom g d) (bytesFrom g n) (bytesFrom g m) i ≡ written op (segment k (byteAt L g)) (destOf op) i
-made-written L op k g d n m dest first second i =
-    let c = from-segment L k g (destOf op) d dest in
-    let a = from-segment L k g (firstOf op) n first in
-    let b = from-segment L k g (secondOf op) m second in
-    (λ t. made op (c t) (a t) (b t) i) ∙ sym (ap (λ f. f i) (written-made op (segment k (byteAt L g)) (destOf op)))
+made-written L op k g d n m dest first second =
+    made-of op (segment k (byteAt L g)) (from-segment L k g (destOf op) d dest) (from-segment L k g (firstOf op) n first) (from-segment L k g (secondOf op) m second)
 
 -- ---- the loop over the segments
+
+-- a segment starts at q, so it ends within the register
+segment-within : (L q : ℕ) → legal L ≡ true → q % 16 ≡ 0 → q < L / 8 → q + 16 ≤ L / 8
+segment-within L q ok aligned more = let whole = legal-exact L .0 ok .whole in omega (arith, aligned)
 
 -- three segments of a short list
 pub record InFile (size d n m : ℕ) : Type 0 where
@@ -89,7 +90,7 @@ module _ (L : ℕ) (rule : Rule) (d n m : ℕ) (f : List ℕ) (lying : Lying L f
 
     module _ (more : q < L / 8) where
       step-within : q + 16 ≤ L / 8
-      step-within = let whole = legal-exact L .0 (held .ok) .whole in omega (arith, i .aligned)
+      step-within = segment-within L q (held .ok) (i .aligned) more
 
       pub sweep-room : InFile (length g) (d + q) (n + q) (m + q)
       sweep-room =
@@ -169,7 +170,7 @@ pub record Clearing (L d : ℕ) (f g : List ℕ) (q : ℕ) : Type 0 where
   pub bound : q ≤ L / 8
   pub so-far : Cleared f (d + 16) (d + q) g
 
-module _ (L d : ℕ) (f : List ℕ) (held : Held L f) (dest : d + L / 8 ≤ 4 * L) where
+module _ (L d : ℕ) (f : List ℕ) (held : Held L f) where
   pub clear-starts : (q : ℕ) → q ≡ 16 → Clearing L d f f q
   clear-starts q e =
       let k = legal-exact L .0 (held .ok) in
@@ -183,10 +184,10 @@ module _ (L d : ℕ) (f : List ℕ) (held : Held L f) (dest : d + L / 8 ≤ 4 * 
 
     module _ (more : q < L / 8) where
       clear-within : q + 16 ≤ L / 8
-      clear-within = let whole = legal-exact L .0 (held .ok) .whole in omega (arith, i .aligned)
+      clear-within = segment-within L q (held .ok) (i .aligned) more
 
-      pub clear-room : (d + q + 16 ≤ length g) × (length g ≤ 8192)
-      clear-room =
+      pub clear-room : d + L / 8 ≤ 4 * L → (d + q + 16 ≤ length g) × (length g ≤ 8192)
+      clear-room dest =
           let most = legal-exact L .0 (held .ok) .most in
           let size : length g ≡ 4 * L = i .so-far .size ∙ held .sized in
           (omega (arith, dest, clear-within), omega arith)

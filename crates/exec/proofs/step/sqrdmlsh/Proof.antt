@@ -1,7 +1,7 @@
--- `exec::step::sqrdmlsh` meets its contract.
+-- `exec::step::sqrdmlsh` meets its contract: the first segment by its function, and the others cleared.
 -- Assumes nothing.
 use borrow.Author.Needs.{needs}
-use mathlib.Core.Path.{refl, sym, subst, _∙_}
+use mathlib.Core.Path.{sym, subst, _∙_}
 use Prim.Native.Nat.{_<_}
 use lib.ListN.{getD}
 use Rattle.isa.specs.Encode.{bySize}
@@ -88,7 +88,7 @@ returns c =
     let k = z .before .before .before .before in
     let s = start k in
     let a = s .args in
-    touched-executed (a .l) (Op.Sqrdmlsh (a .a)) (s .pre .1 .1) (a .file .now) (s .pre .0) _ _ _ (there (placing k) .placed) _ _
+    touched-executed (a .l) (Op.Sqrdmlsh (a .a)) (a .file .now) (s .pre .0) _ _ _ (there (placing k) .placed) _ _
     (touched-whole (a .a .form) (a .a .size) subtracts (a .l) (a .file .now) _ _ _ _ _ _ (s .pre .0) (k .before .before .wide4 .ensures) (k .sqrdmlsh .ensures) (z .clear-above .ensures))
 
 pub sqrdmlsh-spec : {M : Type 1} → statement M

@@ -8,7 +8,7 @@ use lib.IntN.{pos}
 use mir.Syntax.{w32, w64}
 use Rattle.integer.specs.Number.{clamp}
 use Rattle.integer.proofs.Read.{read-one}
-use Rattle.integer.proofs.Widen.{wide32, fits-cast, lane-toward}
+use Rattle.integer.proofs.Widen.{wide32, fits-cast, widened-toward}
 use Rattle.isa.specs.Register.{bits, bytes, pairs}
 use Rattle.isa.specs.Stage.{lane}
 use Rattle.isa.proofs.Made.{Made, made-none, made-more, made-all}
@@ -45,7 +45,7 @@ clamp-toward-requires : tie.Need-clamp-toward-requires Inv-loop μ-loop
 unfolding pairs bits bytes
 clamp-toward-requires c κs =
     let s = c .before .before .before .before in
-    lane-toward wide32 (c .before .clamp-toward-arg .given) (c .clamp-toward-arg2 .given) (s .pre .at (c .before .before .before .loop .e) (omega arith))
+    widened-toward wide32 (c .before .clamp-toward-arg .given) (c .clamp-toward-arg2 .given) (s .pre .at (c .before .before .before .loop .e) (omega arith))
 
 mul-r : tie.Need-mul-r Inv-loop μ-loop
 mul-r c = search needs

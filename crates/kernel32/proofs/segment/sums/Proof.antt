@@ -13,7 +13,7 @@ use Rattle.isa.specs.Register.{bits, bytes}
 use mir.Val.{toZ, ofZ}
 use Rattle.isa.specs.Stage.{lane, Towards}
 use Rattle.isa.proofs.Made.{Begun, begun-none, begun-more, begun-all}
-use Rattle.isa.proofs.Element.{sum-lane, towards-none, towards-more, read-toward}
+use Rattle.isa.proofs.Element.{sum-lane, towards-none, towards-more, stored-toward}
 use Rattle.kernel32.proofs.segment.sums.Statement.{statement}
 use Rattle.kernel32.proofs.segment.sums.Tie as tie
 
@@ -62,7 +62,7 @@ loop-again c =
     let a = x .before .before .before .args in (
       begun-more (l .inv .0) (omega arith) (omega arith) _
           (sum-lane w32 w64 32 (a .minus) (lane (a .t1) (l .e)) (lane (a .t2) (l .e)) (ofZ w32 (a .b)) (c .rounding .ok) (x .rounding-arg .given) (y .rounding-arg2 .given) (c .rounding .ensures .0)),
-      towards-more (l .inv .1) (l .e) (omega (arith, l .inv .0 .made .sized)) _ (read-toward w32 w64 32 (c .rounding .ok) (x .rounding-arg .given) (c .rounding .ensures .1)),
+      towards-more (l .inv .1) (l .e) (omega (arith, l .inv .0 .made .sized)) _ (stored-toward w32 w64 32 (c .rounding .ok) (x .rounding-arg .given) (c .rounding .ensures .1)),
     )
 
 returns : tie.Need-returns Inv-loop μ-loop

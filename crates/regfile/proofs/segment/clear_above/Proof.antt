@@ -15,7 +15,7 @@ abbrev μ-loop : tie.MeasureT-loop
 μ-loop l file₀ d w q₀ file q = w - q
 
 loop-holds : tie.Need-loop-holds Inv-loop μ-loop
-loop-holds c = let s = c .before in let a = s .args in clear-starts (a .l) (a .d) (a .file .now) (s .pre .0) (s .pre .1) _ (omega arith)
+loop-holds c = let s = c .before in let a = s .args in clear-starts (a .l) (a .d) (a .file .now) (s .pre .0) _ (omega arith)
 
 -- the segment at byte q
 room : (h : tie.In-loop Inv-loop μ-loop) →
@@ -25,7 +25,7 @@ room h =
     let s = h .before .before .before in
     let a = s .args in
     let g = h .before .loop in
-    clear-room (a .l) (a .d) (a .file .now) (s .pre .0) (s .pre .1) (g .file) (g .q) (g .inv) (omega (arith, g .inv .bound, h .loop-test .taken))
+    clear-room (a .l) (a .d) (a .file .now) (s .pre .0) (g .file) (g .q) (g .inv) (omega (arith, g .inv .bound, h .loop-test .taken)) (s .pre .1)
 
 add-write16 : tie.Need-add-write16 Inv-loop μ-loop
 add-write16 c = let r = room (c .before) in omega (arith, r .0, r .1)
@@ -46,7 +46,7 @@ loop-again c =
     let g = h .before .loop in
     let s = h .before .before .before in
     let a = s .args in
-    clear-on (a .l) (a .d) (a .file .now) (s .pre .0) (s .pre .1) (g .file) (g .q) (g .inv) (omega (arith, g .inv .bound, h .loop-test .taken))
+    clear-on (a .l) (a .d) (a .file .now) (s .pre .0) (g .file) (g .q) (g .inv) (omega (arith, g .inv .bound, h .loop-test .taken))
     _ (w .write16 .last .0) (all-same 0 16) (w .write16 .ensures)
 
 same-length : tie.Need-same-length Inv-loop μ-loop
@@ -57,7 +57,7 @@ returns c =
     let g = c .before .loop in
     let s = c .before .before .before in
     let a = s .args in
-    clear-ends (a .l) (a .d) (a .file .now) (s .pre .0) (s .pre .1) (g .file) (g .q) (g .inv) (omega (arith, c .loop-test .left))
+    clear-ends (a .l) (a .d) (a .file .now) (s .pre .0) (g .file) (g .q) (g .inv) (omega (arith, c .loop-test .left))
 
 pub clear-above-spec : {M : Type 1} → statement M
 clear-above-spec =

@@ -1,18 +1,18 @@
--- `kernel32::element::sqrdmlah` meets its contract: by form, with the element at the index.
+-- `kernel16::element::elements` meets its contract: by form, with the element at the index.
 -- Assumes nothing.
 use mathlib.Core.Path.{_≡_, sym, _∙_}
 use Prim.Native.Nat.{_%_}
 use native.Mathlib.Omega.{arith}
 use borrow.Author.Needs.{needs}
-use mir.Syntax.{w32}
+use mir.Syntax.{w16}
 use mir.Val.{toZ, ofZ}
 use Rattle.integer.proofs.Word.{kept}
-use Rattle.isa.specs.declared.types.Size.the-variants.{S}
+use Rattle.isa.specs.declared.types.Size.the-variants.{H}
 use Rattle.isa.specs.Register.{pairs, element}
 use Rattle.isa.specs.Segment.{bytesOf}
 use Rattle.isa.specs.Stage.{lane}
-use Rattle.kernel32.proofs.element.sqrdmlah.Statement.{statement}
-use Rattle.kernel32.proofs.element.sqrdmlah.Tie as tie
+use Rattle.kernel16.proofs.element.elements.Statement.{statement}
+use Rattle.kernel16.proofs.element.elements.Tie as tie
 
 lanes-requires : tie.Need-lanes-requires
 lanes-requires c κs = search needs
@@ -45,11 +45,11 @@ vector128-requires c κs = search needs
 at-index : (q : tie.After-b) →
     let z = q .before in
     let a = z .before .args in
-    element S (bytesOf (a .m)) (a .index % 4) ≡ toZ w32 (ofZ w32 (lane (z .lanes .result) (a .index % 4)))
+    element H (bytesOf (a .m)) (a .index % 8) ≡ toZ w16 (ofZ w16 (lane (z .lanes .result) (a .index % 8)))
 unfolding pairs
 at-index q =
     let z = q .before in
-    sym (kept w32 _ (q .b .given) ∙ z .lanes .ensures .at (z .before .args .index % 4) (omega arith))
+    sym (kept w16 _ (q .b .given) ∙ z .lanes .ensures .at (z .before .args .index % 8) (omega arith))
 
 returns : tie.Need-returns
 returns c = let q = c .before .before .before in rw (c .before .enum-told .given .1) (c .scalar .ensures .made _ _ (at-index q))
@@ -60,8 +60,8 @@ returns-2 c = let q = c .before .before .before in rw (c .before .enum-told2 .gi
 returns-3 : tie.Need-returns-3
 returns-3 c = let q = c .before .before .before in rw (c .before .enum-told3 .given .1) (c .vector128 .ensures .made _ _ (at-index q))
 
-pub sqrdmlah-spec : {M : Type 1} → statement M
-sqrdmlah-spec =
+pub elements-spec : {M : Type 1} → statement M
+elements-spec =
     tie.close
     (tie.spec
     lanes-requires
