@@ -12,7 +12,7 @@
 enum { CADD, SQCADD, CMLA, CMLA_I, SQRDCMLAH, SQRDCMLAH_I, SQRDMLAH, SQRDMLSH };
 enum { B, H, S, D };
 enum { SCALAR, VECTOR_64, VECTOR_128 };
-enum { DONE, BAD_LENGTH, BAD_SIZE, TOO_LONG, OUTSIDE, RESERVED };
+enum { DONE, BAD_LENGTH, BAD_SIZE, TOO_LONG, OUTSIDE, RESERVED, NOT_POWER_OF_TWO = 11 };
 
 struct op {
     unsigned family, size, form, turns, d, n, m, index;
@@ -343,13 +343,21 @@ static inline uint64_t answer(unsigned number, bool qc, size_t done)
     return number | (uint64_t)qc << 8 | (uint64_t)done << 16;
 }
 
+unsigned plain_check(size_t l, size_t file_len)
+{
+    if (l % 128 != 0 || l < 128 || l > 2048)
+        return BAD_LENGTH;
+    if ((l & (l - 1)) != 0)
+        return NOT_POWER_OF_TWO;
+    return file_len == 4 * l ? DONE : BAD_SIZE;
+}
+
 uint64_t plain_run(size_t l, uint8_t *file, size_t file_len, bool qc, const uint32_t *words,
                    size_t words_len)
 {
-    if (l % 128 != 0 || l < 128 || l > 2048)
-        return answer(BAD_LENGTH, qc, 0);
-    if (file_len != 4 * l)
-        return answer(BAD_SIZE, qc, 0);
+    unsigned refused = plain_check(l, file_len);
+    if (refused != DONE)
+        return answer(refused, qc, 0);
     if (words_len > 4096)
         return answer(TOO_LONG, qc, 0);
     struct op op = {0};

@@ -6,7 +6,10 @@
 #include <stddef.h>
 #include <stdint.h>
 
-/* Document 01's number in bits 0 to 7, the flag in bit 8, the words done in bits 16 to 31. */
+/* 1, 11 or 2 for a vector length and the bytes of a file, or 0. */
+unsigned plain_check(size_t l, size_t file_len);
+
+/* The number in bits 0 to 7, the flag in bit 8, the words done in bits 16 to 31. */
 uint64_t plain_run(size_t l, uint8_t *file, size_t file_len, bool qc, const uint32_t *words,
                    size_t words_len);
 

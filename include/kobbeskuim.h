@@ -26,8 +26,11 @@ extern "C" {
 
 /* ---- limits */
 
-/* The vector length L, in bits: a multiple of 128, from 128 to 2,048. */
-#define KOB_LENGTH_STEP 128
+/* The vector length L, in bits: 128, 256, 512, 1,024 or 2,048, so KOB_LENGTH_MIN
+ * doubled up to KOB_LENGTH_MAX. The eleven other multiples of 128 between these,
+ * the first of them 384, give KOB_NOT_POWER_OF_TWO, and every other number
+ * KOB_BAD_LENGTH: 0, 127, 192, 2,049, 2,176, 4,096. */
+#define KOB_LENGTH_MIN 128
 #define KOB_LENGTH_MAX 2048
 
 /* The register file: registers 0 to 31 in order, L/8 bytes each, little-endian,
@@ -46,7 +49,7 @@ extern "C" {
 /* ---- numbers answered */
 
 #define KOB_DONE 0         /* done */
-#define KOB_BAD_LENGTH 1   /* L is not legal */
+#define KOB_BAD_LENGTH 1   /* L is not a multiple of 128 from 128 to 2,048 */
 #define KOB_BAD_SIZE 2     /* the file is not 4 x L bytes */
 #define KOB_TOO_LONG 3     /* more than 4,096 words */
 #define KOB_OUTSIDE 4      /* a word of no family here */
@@ -56,6 +59,7 @@ extern "C" {
 #define KOB_NO_ROTATION 8  /* a rotation that the family lacks */
 #define KOB_REGISTER_LIMIT 9 /* a register field above its limit */
 #define KOB_INDEX_LIMIT 10 /* an index above its limit */
+#define KOB_NOT_POWER_OF_TWO 11 /* L is a multiple of 128 from 128 to 2,048, but not a power of two */
 
 /* Numbers of these calls alone, above every number of the library. */
 #define KOB_BAD_FIELDS 32   /* a lent part of other than 8 numbers */
@@ -66,10 +70,10 @@ extern "C" {
 /*
  * Runs the words in order on the lent file, with the saturation flag QC.
  *
- * KOB_DONE: all words are done. KOB_BAD_LENGTH, KOB_BAD_SIZE, KOB_TOO_LONG, the
- * first that applies: nothing is changed, 0 words. KOB_OUTSIDE, KOB_RESERVED: the
- * file and the flag are as after the words before that word, and their count is
- * the words done.
+ * KOB_DONE: all words are done. KOB_BAD_LENGTH, KOB_NOT_POWER_OF_TWO, KOB_BAD_SIZE,
+ * KOB_TOO_LONG, the first that applies: nothing is changed, 0 words. KOB_OUTSIDE,
+ * KOB_RESERVED: the file and the flag are as after the words before that word, and
+ * their count is the words done.
  */
 uint64_t kob_run(size_t l, uint8_t *file, size_t file_length, bool qc,
                  const uint32_t *words, size_t word_count);
@@ -84,7 +88,7 @@ static inline unsigned kob_run_done(uint64_t answer) { return (unsigned)(answer 
 
 /*
  * The place of register n in a file of `size` bytes. KOB_DONE, or the first of
- * KOB_BAD_LENGTH, KOB_BAD_SIZE and KOB_NO_REGISTER that applies.
+ * KOB_BAD_LENGTH, KOB_NOT_POWER_OF_TWO, KOB_BAD_SIZE and KOB_NO_REGISTER that applies.
  */
 uint64_t kob_register(size_t l, size_t size, size_t n);
 

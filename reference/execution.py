@@ -1,7 +1,7 @@
 #!/usr/bin/env python3
 """The independent model of the register file, the step and the run, for any legal length.
 
-Written from document 01 and request A2 alone, over the models of words and lanes. A file is bytes and is never
+Written from document 01 and the requests A2 and A5 alone, over the models of words and lanes. A file is bytes and is never
 changed in place. Run as a program it checks itself, demand 3 on random programs included.
 """
 
@@ -14,11 +14,13 @@ import lanes
 import model
 from model import ELEMENT, SQRDCMLAH_I, H, Operation
 
-LENGTHS = range(128, 2049, 128)
+MULTIPLES = range(128, 2049, 128)
+LENGTHS = tuple(length for length in MULTIPLES if length & length - 1 == 0)  # the powers of two
 MOST_WORDS = 4096
 
-# Document 01's numbers.
+# Document 01's numbers, and A5's.
 DONE, BAD_LENGTH, BAD_SIZE, TOO_LONG, OUTSIDE, RESERVED, NO_REGISTER = range(7)
+NOT_POWER_OF_TWO = 11
 
 
 class Ran(NamedTuple):
@@ -32,9 +34,11 @@ class Ran(NamedTuple):
 
 
 def refusal_of(length, size):
-    """1 or 2, or 0 for a legal length with a file of the right size."""
-    if length not in LENGTHS:
+    """1, 11 or 2, or 0 for a legal length with a file of the right size."""
+    if length not in MULTIPLES:
         return BAD_LENGTH
+    if length not in LENGTHS:
+        return NOT_POWER_OF_TWO
     return DONE if size == 4 * length else BAD_SIZE
 
 
@@ -135,8 +139,16 @@ def self_check():
         expect("the flag and the file", ran[2:], (False, bytes(size)))
         return ran[:2]
 
-    for length, wanted in ((0, 1), (127, 1), (128, 0), (192, 1), (2048, 0), (2176, 1)):
-        expect(f"L = {length}", answer(length, 4 * length, []), (wanted, 0))
+    passing = (128, 256, 512, 1024, 2048)
+    refused = (384, 640, 768, 896, 1152, 1280, 1408, 1536, 1664, 1792, 1920)
+    expect("the lengths", (LENGTHS, sorted(passing + refused)), (passing, list(MULTIPLES)))
+    wrong = (0, 1, 2, 64, 127, 129, 192, 2047, 2049, 2176, 4096)
+    for lengths, wanted in ((passing, DONE), (refused, NOT_POWER_OF_TWO), (wrong, BAD_LENGTH)):
+        for length in lengths:
+            expect(f"L = {length}", answer(length, 4 * length, []), (wanted, 0))
+    for size, count in ((1536, 0), (512, 1), (1535, 0), (1536, 4097), (0, 4097)):
+        expect(f"L = 384, {size} bytes", answer(384, size, [outside] * count), (NOT_POWER_OF_TWO, 0))
+    expect("register 40 at 384", register(384, bytes(1536), 40), (NOT_POWER_OF_TWO, b""))
     for size, wanted in ((511, 2), (512, 0), (513, 2)):
         expect(f"L = 128 with {size} bytes", answer(128, size, []), (wanted, 0))
     expect("4,096 words", answer(128, 512, [cadd] * 4096), (DONE, 4096))
@@ -168,7 +180,7 @@ def self_check():
 
     sve2 = [row for row in model.TABLE if row.family not in ELEMENT]
     for _ in range(60):
-        one, two = sorted((LENGTHS[int(random() * 16)], LENGTHS[int(random() * 16)]))
+        one, two = sorted(LENGTHS[int(random() * len(LENGTHS))] for _ in range(2))
         words = random_program(random, 12, model.TABLE)
         flag = random() < 0.5
         long = random_bytes(4 * two)

@@ -12,14 +12,15 @@ sys.dont_write_bytecode = True  # the repository stays as it was
 import execution
 from execution import OUTSIDE, RESERVED
 
-MEANING = (
-    "done",
-    "length not legal",
-    "file not 4 x L bytes",
-    "more than 4,096 words",
-    "word outside the set",
-    "reserved word",
-)
+MEANING = {
+    0: "done",
+    1: "length not legal",
+    11: "length not a power of two",
+    2: "file not 4 x L bytes",
+    3: "more than 4,096 words",
+    4: "word outside the set",
+    5: "reserved word",
+}
 WIDTH = {"b": 1, "h": 2, "s": 4, "d": 8}
 
 

@@ -17,7 +17,7 @@ import execution
 import kernel_cases
 import lanes
 import model
-from execution import LENGTHS, MOST_WORDS
+from execution import LENGTHS, MOST_WORDS, MULTIPLES
 from model import ADDS, ELEMENT, TABLE
 
 MOST_BYTES = 4 * 2176  # of a file: that of the first multiple of 128 that is too long
@@ -73,7 +73,8 @@ def digest(file):
 
 # ---- the cases
 
-WRONG_LENGTHS = (0, 127, 192, 2176, 2**32 - 1)
+NOT_POWERS = tuple(length for length in MULTIPLES if length not in LENGTHS)
+WRONG_LENGTHS = (0, 127, 192, 2176, 4096, 2**32 - 1) + NOT_POWERS
 
 
 def wrong_sizes(length):
@@ -131,7 +132,7 @@ class Maker:
 
     def length(self):
         """Any legal length, the shorter more often."""
-        return LENGTHS[self.source.below(1 + self.source.below(16))]
+        return LENGTHS[self.source.below(1 + self.source.below(len(LENGTHS)))]
 
     def registers(self, op):
         """The operation with any registers within its limits, at their edges as often as not."""
@@ -167,11 +168,9 @@ class Maker:
     # -- groups of cases
 
     def single(self):
-        """Every operation at eight lengths, and so every family and size at all of them."""
-        for at, op in enumerate(self.operations):
-            for k in range(8):
-                length = LENGTHS[(at + 2 * k) % 16]
-                yield self.seeded(length, [self.word(self.registers(op))], k % 2)
+        """Every operation at every length."""
+        for (at, op), length in product(enumerate(self.operations), LENGTHS):
+            yield self.seeded(length, [self.word(self.registers(op))], at % 2)
 
     def coinciding(self):
         """Every operation with its registers one, in each way."""
@@ -205,7 +204,7 @@ class Maker:
     def programs(self):
         """Several words, each working on what the one before left; some end in the middle."""
         for length in LENGTHS:
-            for k in range(48):
+            for k in range(144):
                 words = [self.good() for _ in range(2 + self.source.below(9))]
                 if k % 3:
                     stop = self.outside() if k % 3 == 1 else self.reserved()
@@ -221,7 +220,7 @@ class Maker:
         """Lengths, sizes and programs on either side of their limits, one or several at a time."""
         programs = [[], [self.good()], [self.outside()], [self.reserved()]]
         wrong = (0, 1, 64, 120, 127, 129, 136, 192, 320, 2040, 2047, 2049, 2056, 2112, 2175, 2176)
-        for length in wrong + (2304, 4096, 2**31, 2**32 - 128, 2**32 - 1):
+        for length in wrong + (2304, 4096, 2**31, 2**32 - 128, 2**32 - 1) + NOT_POWERS:
             for size in sorted({0, 511, 512, min(4 * length, MOST_BYTES)}):
                 yield self.seeded(length, self.source.choose(programs[:2]), 0, size)
                 yield self.seeded(length, self.source.choose(programs[2:]), 1, size)
@@ -241,6 +240,8 @@ class Maker:
         yield self.seeded(128, many + many[:1])
         yield self.seeded(2048, outside + many)
         yield self.seeded(192, many + outside)
+        yield self.seeded(384, many + outside)
+        yield self.seeded(384, many + outside, None, 511)
         yield self.seeded(128, many + outside, None, 511)
 
     def executed(self):
@@ -251,7 +252,7 @@ class Maker:
             return word_case(length, size, self.source.below(2), word, self.source.choose(SEEDS))
 
         for at, op in enumerate(self.operations):
-            for length in (LENGTHS[at % 16], self.length()):
+            for length in (LENGTHS[at % len(LENGTHS)], self.length()):
                 yield one(length, self.word(self.registers(op)))
         for length in LENGTHS:
             for make in (self.good, self.outside, self.reserved):
@@ -262,7 +263,7 @@ class Maker:
                 yield from (one(length, make(), size) for size in any_sizes(length))
 
     def asked(self):
-        """Registers on either side of the limit; 1 before 2 before 6 where several are due."""
+        """Registers on either side of the limit; 1 or 11 before 2 before 6 where several are due."""
 
         def one(length, size, n):
             return register_case(length, size, n, self.source.choose(SEEDS))
@@ -273,7 +274,7 @@ class Maker:
             for size, n in product(wrong_sizes(length), (0, 31, 32, 2**32 - 1)):
                 yield one(length, size, n)
         for length in WRONG_LENGTHS:
-            for size, n in product(any_sizes(length), (0, 31, 32, 2**32 - 1)):
+            for size, n in product(any_sizes(length), (0, 31, 32, 40, 2**32 - 1)):
                 yield one(length, size, n)
 
     def cleared(self):

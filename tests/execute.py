@@ -64,6 +64,11 @@ def illegal(text, qc=0):
     prints(text, b"answer 1 length not legal", b"words done 0", b"qc %d" % qc)
 
 
+def no_power(text, qc=0):
+    """The same with a multiple of 128 that is not a power of two."""
+    prints(text, b"answer 11 length not a power of two", b"words done 0", b"qc %d" % qc)
+
+
 def as_modelled(text):
     expect(run(data=text), report.report(text), b"")
 
@@ -126,9 +131,9 @@ def accepted():
 
 
 def refused():
-    for length in (0, 1, 64, 127, 129, 192, 2047, 2049, 2176, 4096):
+    for length in (0, 1, 64, 127, 129, 192, 2047, 2049, 2176, 4096, 384, 640, 1920):
         text = b"length %d\nz 31 %s\nword 0\n" % (length, b"ff" * (length // 8))
-        yield f"length {length}", illegal, text
+        yield f"length {length}", no_power if length in (384, 640, 1920) else illegal, text
         more = text.replace(b"\nword", b" 00\nword")
         yield f"a byte more at {length}", says, more, 2, b"more bytes than a register has"
     for word in (b"0", b"0x0", b"4501D820", b"4501d820", b"0xFFFFFFFF", b"00000001"):
@@ -138,6 +143,7 @@ def refused():
     yield "4097 words", prints, words, *answer
     yield "4098 words", says, words + b"word 0", 4100, b"more than 4097 words"
     yield "4097 words at an illegal length", illegal, words.replace(b"128", b"100"), 1
+    yield "4097 words at 384", no_power, words.replace(b"128", b"384"), 1
 
 
 def wrong():

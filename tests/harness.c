@@ -182,7 +182,7 @@ static void fill(uint8_t *file, size_t size)
 /* Any legal length, the shorter more often. */
 static size_t legal_length(void)
 {
-    return 128 * (1 + (size_t)below(1 + below(16)));
+    return (size_t)128 << below(1 + below(5));
 }
 
 /* ---- telling a difference */
@@ -208,9 +208,11 @@ static uint32_t words[MOST_WORDS + 1];
 static size_t wrong_length(void)
 {
     static const size_t some[] = {0, 1, 64, 127, 129, 192, 2047, 2049, 2112, 2176, 4096};
-    switch (below(4)) {
+    switch (below(6)) {
     case 0: return next();
     case 1: return next() / 128 * 128;
+    case 2: return 128 * (size_t)(1 + below(16)); /* a power of two as well */
+    case 3: return (size_t)1 << below(64);
     default: return some[below(sizeof some / sizeof *some)];
     }
 }
@@ -279,7 +281,9 @@ static void register_case(void)
     size_t l = one_in(2) ? legal_length() : wrong_length();
     size_t size = one_in(2) ? 4 * l : wrong_size(4 * l);
     size_t n = one_in(8) ? next() : below(40);
-    uint64_t wanted = l % 128 || l < 128 || l > 2048 ? 1 : size != 4 * l ? 2 : n > 31 ? 6 : 0;
+    uint64_t wanted = plain_check(l, size);
+    if (wanted == 0 && n > 31)
+        wanted = 6;
     if (wanted == 0)
         wanted = (uint64_t)(n * (l / 8)) << 16 | (uint64_t)(l / 8) << 40;
     uint64_t found = kob_register(l, size, n);
@@ -302,7 +306,9 @@ static uint8_t whole[MOST_FILE], alone[MOST_FILE], wanted_part[MOST_FILE];
 /* A program on two files that agree up to the shorter length: what is told and left agrees too. */
 static void length_case(void)
 {
-    size_t one = legal_length(), two = one + 128 * (size_t)below((uint32_t)(17 - one / 128));
+    size_t one = legal_length(), two = one;
+    while (two < 2048 && one_in(2))
+        two *= 2;
     size_t count = program(words, ROWS);
     bool qc = one_in(2);
     fill(whole, 4 * two);

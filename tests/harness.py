@@ -29,7 +29,7 @@ import lanes
 import model
 import run_cases
 from cases import Source
-from execution import LENGTHS, MOST_WORDS
+from execution import MOST_WORDS, MULTIPLES
 from model import ADDS, ELEMENT, INDEXED, Operation
 
 TOLD = 10  # differences told in full
@@ -182,7 +182,7 @@ class Maker(run_cases.Maker):
         source = self.source
         length = self.length()
         if source.below(2):
-            length = source.choose((0, 1, 127, 129, 192, 2047, 2049, 2176, 2**32, 2**63, 2**64 - 128))
+            length = source.choose((0, 1, 127, 129, 192, 2047, 2049, 2176, 4096, 2**32, 2**63, 2**64 - 128) + run_cases.NOT_POWERS)
         size = 4 * length
         if source.below(2) or size > run_cases.MOST_BYTES:
             size = max(0, min(size, 8192) + source.choose((-512, -16, -1, 0, 1, 16, 128)))
@@ -209,7 +209,7 @@ class Maker(run_cases.Maker):
 
     def asking(self):
         source = self.source
-        length = source.choose((0, 127, 192, 2176, 2**64 - 128) + tuple(LENGTHS))
+        length = source.choose((0, 127, 192, 2176, 4096, 2**64 - 128) + tuple(MULTIPLES))
         size = 4 * length + source.choose((-1, 0, 0, 0, 0, 1))
         n = source.choose((0, 1, 30, 31, 32, 2**32, 2**64 - 1))
         return register_case(length, max(0, size) % 2**64, n)

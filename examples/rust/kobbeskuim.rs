@@ -15,6 +15,7 @@ pub mod kobbeskuim {
     pub const NO_ROTATION: u32 = 8;
     pub const REGISTER_LIMIT: u32 = 9;
     pub const INDEX_LIMIT: u32 = 10;
+    pub const NOT_POWER_OF_TWO: u32 = 11;
     pub const NO_OPERATION: u32 = 33;
 
     // A Rattle slice is a pointer and then a length.
@@ -85,6 +86,10 @@ fn edges_of_a_run() {
     for (l, size) in [(0, 0), (127, 508), (192, 768), (2176, 8192)] {
         assert_eq!(run(l, &mut file[..size], true, &[]), ran(BAD_LENGTH, 0, true));
     }
+    // 384 is no power of two, and that comes before a wrong size and a program too long.
+    for (size, words) in [(1536, 1), (512, 1), (1536, 4097)] {
+        assert_eq!(run(384, &mut file[..size], true, &vec![0; words]), ran(NOT_POWER_OF_TWO, 0, true));
+    }
     assert_eq!(run(128, &mut file[..511], false, &[0]), ran(BAD_SIZE, 0, false));
     assert_eq!(run(128, &mut file[..513], false, &[0]), ran(BAD_SIZE, 0, false));
     assert_eq!(run(128, &mut file[..512], false, &[0; 4097]), ran(TOO_LONG, 0, false));
@@ -126,6 +131,7 @@ fn registers() {
     assert_eq!(register(256, &mut file, 32), Err(NO_REGISTER));
     assert_eq!(register(128, &mut file, 0), Err(BAD_SIZE));
     assert_eq!(register(100, &mut file, 32), Err(BAD_LENGTH));
+    assert_eq!(register(384, &mut file, 40), Err(NOT_POWER_OF_TWO));
 }
 
 fn words_and_fields() {

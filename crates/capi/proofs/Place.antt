@@ -14,6 +14,7 @@ use Rattle.capi.specs.Register.{Place, partPacked, packedAsked, register
 refused-number : (k : Asked) (part : ℕ) → (k ≡ Asked.Found → ⊥) → askedNumber k ≡ packedAsked k part
 refused-number Asked.Found part ne = absurd (ne refl)
 refused-number Asked.BadLength part ne = refl
+refused-number Asked.NotPowerOfTwo part ne = refl
 refused-number Asked.BadSize part ne = refl
 refused-number Asked.NoRegister part ne = refl
 
@@ -56,6 +57,7 @@ module _ (L : ℕ) (file : List ℕ) (n : ℕ) where
       ∙ ap (λ (s : ℕ). take (partPacked (n * (L / 8)) (L / 8) / 0x100_0000_0000) (drop s file)) (sym (part-start (n * (L / 8)) (L / 8) p))
       ∙ ap (partAt file) (zero-plus (partPacked (n * (L / 8)) (L / 8))))
   cut-checked Asked.BadLength e = rw e
+  cut-checked Asked.NotPowerOfTwo e = rw e
   cut-checked Asked.BadSize e = rw e
   cut-checked Asked.NoRegister e = rw e
 

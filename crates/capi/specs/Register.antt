@@ -19,6 +19,7 @@ pub record Place (start length : ℕ) : Type 0 where
 abbrev pub packedAsked : Asked → ℕ → ℕ
 packedAsked Asked.Found part = askedNumber Asked.Found + part
 packedAsked Asked.BadLength part = askedNumber Asked.BadLength
+packedAsked Asked.NotPowerOfTwo part = askedNumber Asked.NotPowerOfTwo
 packedAsked Asked.BadSize part = askedNumber Asked.BadSize
 packedAsked Asked.NoRegister part = askedNumber Asked.NoRegister
 

@@ -16,10 +16,11 @@ use Rattle.isa.specs.declared.types.Ran.{Ran}
 use Rattle.isa.proofs.Run.{run-count}
 use Rattle.capi_run.specs.Run.{RunAnswer, flagPacked, ranPacked, packedOutcome, runCall, RunBits}
 
-pub ending-small : (e : Ending) → endingNumber e < 6
+pub ending-small : (e : Ending) → endingNumber e < 12
 unfolding endingNumber
 ending-small Ending.Done = omega arith
 ending-small Ending.BadLength = omega arith
+ending-small Ending.NotPowerOfTwo = omega arith
 ending-small Ending.BadSize = omega arith
 ending-small Ending.TooLong = omega arith
 ending-small Ending.Outside = omega arith
@@ -33,6 +34,7 @@ module _ (L : ℕ) (file : List ℕ) (qc : Bool) (words : List ℕ) where
   checked-short : (k : Checked) → checkedRun k L words (start file qc) .answer .done ≤ 4096
   checked-short Checked.Passed = picked-short (ltb 4096 (length words)) refl
   checked-short Checked.BadLength = omega arith
+  checked-short Checked.NotPowerOfTwo = omega arith
   checked-short Checked.BadSize = omega arith
 
   pub run-short : outcomeOf L file qc words .answer .done ≤ 4096

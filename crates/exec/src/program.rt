@@ -27,6 +27,7 @@ pub fn ending_number(e: Ending) -> u8
     match e {
         Ending::Done => 0,
         Ending::BadLength => 1,
+        Ending::NotPowerOfTwo => 11,
         Ending::BadSize => 2,
         Ending::TooLong => 3,
         Ending::Outside => 4,
@@ -114,6 +115,7 @@ pub fn run(l: usize, file: &mut [u8], qc: bool, words: &[u32]) -> Ran
             run_words(l, file, qc, words)
         }
         Checked::BadLength => refused(Ending::BadLength, qc),
+        Checked::NotPowerOfTwo => refused(Ending::NotPowerOfTwo, qc),
         Checked::BadSize => refused(Ending::BadSize, qc),
     }
 }

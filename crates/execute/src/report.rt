@@ -5,15 +5,17 @@ use crate::put::put_byte;
 use crate::put::put_hex;
 use crate::put::put_line;
 use crate::put::put_number;
+use isa::types::Ending;
 use isa::types::Ran;
 
-// The answers, by document 01's number.
-const ANSWERS: [u8; 154] = *b"answer 0 done
-answer 1 length not legal
-answer 2 file not 4 x L bytes
-answer 3 more than 4,096 words
-answer 4 word outside the set
-answer 5 reserved word
+// What the answers mean: a line each, as `meaning_line` counts them.
+const MEANINGS: [u8; 133] = *b" done
+ length not legal
+ length not a power of two
+ file not 4 x L bytes
+ more than 4,096 words
+ word outside the set
+ reserved word
 ";
 
 // ---- registers
@@ -113,9 +115,22 @@ fn put_registers(
 
 // ---- the run
 
+fn meaning_line(ending: Ending) -> usize {
+    match ending {
+        Ending::Done => 0,
+        Ending::BadLength => 1,
+        Ending::NotPowerOfTwo => 2,
+        Ending::BadSize => 3,
+        Ending::TooLong => 4,
+        Ending::Outside => 5,
+        Ending::Reserved => 6,
+    }
+}
+
 // The answer, the words done and the flag, at the start of out.
-fn put_ran(out: &mut [u8], number: u8, done: usize, qc: bool) -> usize {
-    let answered = put_line(out, 0, &ANSWERS, number as usize);
+fn put_ran(out: &mut [u8], ending: Ending, done: usize, qc: bool) -> usize {
+    let numbered = put_number(out, 0, b"answer ", exec::ending_number(ending) as u64);
+    let answered = put_line(out, numbered, &MEANINGS, meaning_line(ending));
     let counted = put_number(out, answered, b"words done ", done as u64);
     let flagged = put_number(out, counted, b"\nqc ", qc as u64);
     put_byte(out, flagged, b'\n')
@@ -133,7 +148,8 @@ fn bytes_of(word: u32) -> [u8; 4] {
 
 // The word that ended the run, and its place, after answers 4 and 5.
 fn put_place(out: &mut [u8], at: usize, number: u8, n: usize, words: &[u32]) -> usize {
-    if number < 4 || words.len() <= n {
+    let stopped = number == 4 || number == 5;
+    if !stopped || words.len() <= n {
         return at;
     }
     let bytes = bytes_of(words[n]);
@@ -153,7 +169,7 @@ pub fn put_report(
 ) -> usize {
     let ending = ran.ending;
     let number = exec::ending_number(ending);
-    let told = put_ran(out, number, ran.done, ran.qc);
+    let told = put_ran(out, ending, ran.done, ran.qc);
     let placed = put_place(out, told, number, ran.done, words);
     put_registers(out, placed, request, before, after)
 }

@@ -1,19 +1,21 @@
--- The register file of a legal vector length, byte by byte. `legal-exact`: what `legal` tests. `fileOf-length`: the file of registers has 4 x L bytes.
+-- The register file of a legal vector length, byte by byte. `legal-exact`, `refused-exact`, `other-exact`: the lengths that pass, number 11's
+-- and number 1's. `fileOf-length`: the file of registers has 4 x L bytes.
 -- `fileOf-at`: its bytes are theirs. `fileOf-bytes`: a file of 4 x L bytes is the file of its bytes. `fileOf-cong` and `byteAt-ext`: a file is known by
 -- its bytes in registers 0 to 31. `bytes-same`: past register 31 any two files are the same. Assumes nothing.
-use mathlib.Core.Path.{_≡_, refl, sym, ap, ap₂, _∙_}
-use Prim.Native.Nat.{ℕ, zero, suc, _+_, _*_, _/_, _%_, _<_, _≤_}
+use mathlib.Core.Path.{_≡_, refl, sym, ap, ap₂, _∙_, subst}
+use mathlib.Core.Logic.{_↔_}
+use Prim.Native.Nat.{ℕ, zero, suc, _+_, _*_, _/_, _%_, _^_, _<_, _≤_}
 use native.Mathlib.Omega.{arith}
-use native.Mathlib.Nat.{mul-le-mul-right, div-lt-iff-lt-mul, mod-lt, div-add-mod'}
+use native.Mathlib.Nat.{mul-le-mul-right, div-lt-iff-lt-mul, mod-lt, div-add-mod', pow-le-pow-right}
 use mathlib.Core.List.{List, _∷_}
-use mathlib.Core.Bool.{Bool, true, false}
+use mathlib.Core.Bool.{Bool, true, false, _||_, true≢false}
 use lib.ListN.{length, getD, List·getD-eq-default}
 use lib.Seq.{ext-getD}
 use lib.Arith.{digits-lt, digits-div, digits-mod}
 use lib.Dec.{ltb, leb, eqb}
-use borrow.Author.Tests.{ltb-true, ltb-false, leb-true, eqb-true, le-leb, eq-eqb}
+use borrow.Author.Tests.{ltb-true, ltb-false, leb-true, leb-false, eqb-true, eqb-false, le-leb, eq-eqb}
 use Rattle.isa.specs.Register.{Regs}
-use Rattle.isa.specs.File.{legal, Legal, tabulate, byteAt, fileOf}
+use Rattle.isa.specs.File.{legal, multiple, Multiple, PowerOfTwo, Legal, NotPowerOfTwo, tabulate, byteAt, fileOf}
 use Rattle.isa.proofs.Fields.{and-left, and-right}
 
 -- both outcomes of a test
@@ -21,18 +23,72 @@ pub cases : {A : Type 0} (t : Bool) → (t ≡ true → A) → (t ≡ false → 
 cases true if-true if-false = if-true refl
 cases false if-true if-false = if-false refl
 
--- ---- legal lengths
+-- ---- legal lengths, and those that number 11 refuses
+
+either : {A : Type 0} (a b : Bool) → (a || b) ≡ true → (a ≡ true → A) → (b ≡ true → A) → A
+either true b e left right = left refl
+either false b e left right = right e
+
+multiple-of : (L : ℕ) {P : Type 0} → multiple L ≡ true → P → Multiple L P
+unfolding multiple
+multiple-of L e p = record {
+  whole = eqb-true (L % 128) 0 (and-left (eqb (L % 128) 0) _ e);
+  least = leb-true 128 L (and-left (leb 128 L) _ (and-right (eqb (L % 128) 0) _ e));
+  most = leb-true L 2048 (and-right (leb 128 L) _ (and-right (eqb (L % 128) 0) _ e));
+  power = p;
+}
+
+multiple-is : (L : ℕ) {P : Type 0} → Multiple L P → multiple L ≡ true
+unfolding multiple
+multiple-is L l = rw (eq-eqb (L % 128) 0 (l .whole), le-leb 128 L (l .least), le-leb L 2048 (l .most))
+
+-- a length that is 2^k
+known : (L n k : ℕ) → n ≡ 2 ^ k → multiple n ≡ true → eqb L n ≡ true → Legal L
+known L n k power m e = subst Legal (sym (eqb-true L n e)) (multiple-of n m (k, power))
+
+-- one by one
+within : (k : ℕ) → 7 ≤ k → k < 12 → legal (2 ^ k) ≡ true
+unfolding legal
+within k low high =
+    cases (eqb k 7) (λ e. rw (eqb-true k 7 e))
+    (λ e₇. cases (eqb k 8) (λ e. rw (eqb-true k 8 e))
+    (λ e₈. cases (eqb k 9) (λ e. rw (eqb-true k 9 e))
+    (λ e₉. cases (eqb k 10) (λ e. rw (eqb-true k 10 e))
+    (λ e₁₀. let last : k ≡ 11 = omega (arith, eqb-false k 7 e₇, eqb-false k 8 e₈, eqb-false k 9 e₉, eqb-false k 10 e₁₀) in rw last))))
+
+-- 2^7 to 2^11, for 2^6 is too short and 2^12 too long
+power-legal : (k : ℕ) → 128 ≤ 2 ^ k → 2 ^ k ≤ 2048 → legal (2 ^ k) ≡ true
+unfolding legal
+power-legal k least most =
+    let grows : (i j : ℕ) → i ≤ j → 2 ^ i ≤ 2 ^ j = λ i j h. pow-le-pow-right {n = 2} (omega arith) {i = i} {j = j} h in
+    cases (ltb k 7) (λ e. absurd (omega (arith, grows k 6 (omega (arith, ltb-true k 7 e)))))
+    (λ e. cases (leb 12 k) (λ f. absurd (omega (arith, grows 12 k (leb-true 12 k f))))
+    (λ f. within k (ltb-false k 7 e) (leb-false 12 k f)))
 
 pub legal-exact : (L : ℕ) → (legal L ≡ true → Legal L) × (Legal L → legal L ≡ true)
-unfolding legal
+unfolding legal multiple
 legal-exact L = (
-  (λ e. record {
-    whole = eqb-true (L % 128) 0 (and-left (eqb (L % 128) 0) _ e);
-    least = leb-true 128 L (and-left (leb 128 L) _ (and-right (eqb (L % 128) 0) _ e));
-    most = leb-true L 2048 (and-right (leb 128 L) _ (and-right (eqb (L % 128) 0) _ e));
-  }),
-  (λ l. rw (eq-eqb (L % 128) 0 (l .whole), le-leb 128 L (l .least), le-leb L 2048 (l .most))),
+  (λ e. either _ _ e (known L _ 7 refl refl)
+      (λ e. either _ _ e (known L _ 8 refl refl)
+      (λ e. either _ _ e (known L _ 9 refl refl)
+      (λ e. either _ _ e (known L _ 10 refl refl) (known L _ 11 refl refl))))),
+  (λ l. let e = l .power .1 in ap legal e ∙ power-legal (l .power .0) (omega (arith, l .least)) (omega (arith, l .most))),
 )
+
+module _ (L : ℕ) where
+  -- number 11's lengths are the multiples that do not pass
+  pub refused-exact : NotPowerOfTwo L ↔ ((multiple L ≡ true) × (legal L ≡ false))
+  refused-exact = (
+    (λ l. (multiple-is L l, cases (legal L) (λ e. absurd (l .power (legal-exact L .0 e .power))) (λ e. e))),
+    (λ h. multiple-of L (h .0) (λ p. true≢false (sym (legal-exact L .1 (multiple-of L (h .0) p)) ∙ h .1))),
+  )
+
+  -- and number 1's are the others
+  pub other-exact : legal L ≡ false → (NotPowerOfTwo L → ⊥) ↔ (multiple L ≡ false)
+  other-exact e = (
+    (λ n. cases (multiple L) (λ m. absurd (n (refused-exact .1 (m, e)))) (λ m. m)),
+    (λ m l. true≢false (sym (multiple-is L l) ∙ m)),
+  )
 
 -- ---- lists by their places
 

@@ -1,5 +1,5 @@
--- What the checks of a vector length, a file's size and a register's number answer. `check-length`, `check-size`, `check-passed`: 1, 2 and 0, by what
--- holds. `passed-exact`: what a check that passed tells. `register-ends`: a register handed out ends within the file. Assumes nothing.
+-- What the checks of a vector length, a file's size and a register's number answer. `check-length`, `check-power`, `check-size`, `check-passed`: 1,
+-- 11, 2 and 0, by what holds. `passed-exact`: what a check that passed tells. `register-ends`: a register handed out ends within the file. Assumes nothing.
 use mathlib.Core.Path.{_≡_, refl}
 use Prim.Native.Nat.{ℕ, _+_, _*_, _/_, _-_, _<_, _≤_}
 use native.Mathlib.Omega.{arith}
@@ -11,42 +11,41 @@ use lib.Dec.{ltb, eqb}
 use borrow.Author.Tests.{ltb-true, lt-ltb, le-ltb, eqb-true, eq-eqb, ne-eqb}
 use Rattle.isa.specs.declared.types.Checked.{Checked}
 use Rattle.isa.specs.declared.types.Asked.{Asked}
-use Rattle.isa.specs.File.{Legal, legal, pickChecked, checkOf, pickAsked, registerAfter, registerCheck, registerOf}
-use Rattle.isa.proofs.File.{legal-exact, cases}
+use Rattle.isa.specs.File.{legal, multiple, pickChecked, checkOf, pickAsked, registerAfter, registerCheck, registerOf}
+use Rattle.isa.proofs.File.{legal-exact}
 
--- ---- lengths that are not legal
-
-module _ (L : ℕ) (bad : Legal L → ⊥) where
-  pub not-legal : legal L ≡ false
-  not-legal = cases (legal L) (λ e. absurd (bad (legal-exact L .0 e))) (λ e. e)
-
--- ---- 1, then 2
+-- ---- 1 or 11, then 2
 
 module _ (L size : ℕ) where
-  pub check-length : (Legal L → ⊥) → checkOf L size ≡ Checked.BadLength
+  pub check-length : legal L ≡ false → multiple L ≡ false → checkOf L size ≡ Checked.BadLength
   unfolding checkOf
-  check-length bad = rw (not-legal L bad)
+  check-length l m = rw (l, m)
 
-  pub check-size : Legal L → (size ≡ 4 * L → ⊥) → checkOf L size ≡ Checked.BadSize
+  pub check-power : legal L ≡ false → multiple L ≡ true → checkOf L size ≡ Checked.NotPowerOfTwo
   unfolding checkOf
-  check-size l ne = rw (legal-exact L .1 l, ne-eqb size (4 * L) ne)
+  check-power l m = rw (l, m)
 
-  pub check-passed : Legal L → size ≡ 4 * L → checkOf L size ≡ Checked.Passed
+  pub check-size : legal L ≡ true → (size ≡ 4 * L → ⊥) → checkOf L size ≡ Checked.BadSize
   unfolding checkOf
-  check-passed l e = rw (legal-exact L .1 l, eq-eqb size (4 * L) e)
+  check-size l ne = rw (l, ne-eqb size (4 * L) ne)
+
+  pub check-passed : legal L ≡ true → size ≡ 4 * L → checkOf L size ≡ Checked.Passed
+  unfolding checkOf
+  check-passed l e = rw (l, eq-eqb size (4 * L) e)
 
   picked-size : (b : Bool) → pickChecked b Checked.Passed Checked.BadSize ≡ Checked.Passed → b ≡ true
   picked-size true h = refl
   picked-size false h = let z : _≡_ {A = ℕ} 0 1 = cc in absurd (omega arith)
 
-  picked-both : (a b : Bool) → pickChecked a (pickChecked b Checked.Passed Checked.BadSize) Checked.BadLength ≡ Checked.Passed → (a ≡ true) × (b ≡ true)
-  picked-both true b h = (refl, picked-size b h)
-  picked-both false b h = let z : _≡_ {A = ℕ} 0 1 = cc in absurd (omega arith)
+  picked-both : (a b c : Bool) → pickChecked a (pickChecked b Checked.Passed Checked.BadSize) (pickChecked c Checked.NotPowerOfTwo Checked.BadLength) ≡ Checked.Passed → (a ≡ true) × (b ≡ true)
+  picked-both true b c h = (refl, picked-size b h)
+  picked-both false b true h = let z : _≡_ {A = ℕ} 0 1 = cc in absurd (omega arith)
+  picked-both false b false h = let z : _≡_ {A = ℕ} 0 1 = cc in absurd (omega arith)
 
   pub passed-exact : checkOf L size ≡ Checked.Passed → (legal L ≡ true) × (size ≡ 4 * L)
   unfolding checkOf
   passed-exact h =
-      let both = picked-both (legal L) (eqb size (4 * L)) h in
+      let both = picked-both (legal L) (eqb size (4 * L)) (multiple L) h in
       (both .0, eqb-true size (4 * L) (both .1))
 
 -- ---- then 6
@@ -67,6 +66,7 @@ module _ (L size r : ℕ) where
   after-passed : (k : Checked) → registerAfter k r ≡ Asked.Found → (k ≡ Checked.Passed) × (r < 32)
   after-passed Checked.Passed h = (refl, ltb-true r 32 (below (ltb r 32) h))
   after-passed Checked.BadLength h = let z : _≡_ {A = ℕ} 0 1 = cc in absurd (omega arith)
+  after-passed Checked.NotPowerOfTwo h = let z : _≡_ {A = ℕ} 0 1 = cc in absurd (omega arith)
   after-passed Checked.BadSize h = let z : _≡_ {A = ℕ} 0 1 = cc in absurd (omega arith)
 
   -- a register that is handed out: the length is short, and the register ends within the file
@@ -95,5 +95,6 @@ module _ (L : ℕ) (file : List ℕ) (r : ℕ) where
   unfolding registerOf
   register-refused Asked.Found e bad = absurd (bad refl)
   register-refused Asked.BadLength e bad = rw e
+  register-refused Asked.NotPowerOfTwo e bad = rw e
   register-refused Asked.BadSize e bad = rw e
   register-refused Asked.NoRegister e bad = rw e

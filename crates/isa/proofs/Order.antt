@@ -1,5 +1,5 @@
--- The whole call by its checks, in their order. `refused-length`, `refused-size`, `refused-program`: 1, 2 and 3 leave the file and the flag as they were,
--- with 0 words. `run-otherwise`: with none of the three it is the run. Assumes nothing.
+-- The whole call by its checks, in their order. `refused-length`, `refused-power`, `refused-size`, `refused-program`: 1, 11, 2 and 3 leave the file and
+-- the flag as they were, with 0 words. `run-otherwise`: with none of the four it is the run. Assumes nothing.
 use mathlib.Core.Path.{_≡_}
 use Prim.Native.Nat.{ℕ, _*_, _<_, _≤_}
 use mathlib.Core.Bool.{Bool, true, false}
@@ -7,13 +7,17 @@ use mathlib.Core.List.{List}
 use lib.ListN.{length}
 use borrow.Author.Tests.{lt-ltb, le-ltb, eq-eqb, ne-eqb}
 use Rattle.isa.specs.declared.types.Ending.{Ending}
-use Rattle.isa.specs.File.{legal, checkOf}
+use Rattle.isa.specs.File.{legal, multiple, checkOf}
 use Rattle.isa.specs.Run.{start, ended, run, outcomeOf}
 
 module _ (L : ℕ) (file : List ℕ) (qc : Bool) (words : List ℕ) where
-  pub refused-length : legal L ≡ false → outcomeOf L file qc words ≡ ended Ending.BadLength (start file qc)
+  pub refused-length : legal L ≡ false → multiple L ≡ false → outcomeOf L file qc words ≡ ended Ending.BadLength (start file qc)
   unfolding outcomeOf checkOf
-  refused-length e = rw e
+  refused-length e m = rw (e, m)
+
+  pub refused-power : legal L ≡ false → multiple L ≡ true → outcomeOf L file qc words ≡ ended Ending.NotPowerOfTwo (start file qc)
+  unfolding outcomeOf checkOf
+  refused-power e m = rw (e, m)
 
   pub refused-size : legal L ≡ true → (length file ≡ 4 * L → ⊥) → outcomeOf L file qc words ≡ ended Ending.BadSize (start file qc)
   unfolding outcomeOf checkOf

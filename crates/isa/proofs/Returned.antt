@@ -16,11 +16,12 @@ use Rattle.isa.specs.declared.types.Ending.{Ending}
 use Rattle.isa.specs.Allowed.{AllowedWord, ReservedWord, OutsideWord}
 use Rattle.isa.specs.Decode.{decodeOf}
 use Rattle.isa.specs.Encode.{encodeOf}
-use Rattle.isa.specs.File.{legal, checkOf, registerCheck, registerOf}
+use Rattle.isa.specs.File.{legal, multiple, checkOf, registerCheck, registerOf}
 use Rattle.isa.specs.Run.{State, start, Outcome, run, outcomeOf}
 use Rattle.isa.specs.Number.{decodedNumber, decodedOperation, writtenNumber, writtenWord, checkedNumber, askedNumber, endingNumber, runNumber, runLeft}
 use Rattle.isa.specs.Returned.{Runs, Operations, afterWords, RunReturns, RunsAs, CheckReturns, ChecksAs, RegisterReturns, AsksAs, WriteReturns, DecodeReturns, DecodesAs}
-use Rattle.isa.proofs.Order.{refused-length, refused-size, refused-program, run-otherwise}
+use Rattle.isa.proofs.File.{refused-exact, other-exact}
+use Rattle.isa.proofs.Order.{refused-length, refused-power, refused-size, refused-program, run-otherwise}
 use Rattle.isa.proofs.Run.{Stop, Worked, Ends, finished, run-ends, run-exact, run-prefix}
 use Rattle.isa.proofs.Checks.{passed, word-exact, encode-exact}
 use Rattle.isa.proofs.Exact.{operation-exact, reserved-exact, outside-exact}
@@ -33,45 +34,49 @@ moved P {a} {x} {b} {y} p e = subst (λ u. P u y) (e .0) (subst (P a) (e .1) p)
 -- ---- a length and a size
 
 module _ (L size : ℕ) where
-  checked : (l s : Bool) → legal L ≡ l → eqb size (4 * L) ≡ s → CheckReturns L size (checkedNumber (checkOf L size))
+  checked : (l m s : Bool) → legal L ≡ l → multiple L ≡ m → eqb size (4 * L) ≡ s → CheckReturns L size (checkedNumber (checkOf L size))
   unfolding checkOf checkedNumber
-  checked false s el es = rw el (CheckReturns.bad-length el)
-  checked true false el es = rw (el, es) (CheckReturns.bad-size el (eqb-false size (4 * L) es))
-  checked true true el es = rw (el, es) (CheckReturns.passed el (eqb-true size (4 * L) es))
+  checked false false s el em es = rw (el, em) (CheckReturns.bad-length el (other-exact L el .1 em))
+  checked false true s el em es = rw (el, em) (CheckReturns.not-power-of-two (refused-exact L .1 (em, el)))
+  checked true m false el em es = rw (el, es) (CheckReturns.bad-size el (eqb-false size (4 * L) es))
+  checked true m true el em es = rw (el, es) (CheckReturns.passed el (eqb-true size (4 * L) es))
 
   checks : {n : ℕ} → CheckReturns L size n → checkedNumber (checkOf L size) ≡ n
   unfolding checkOf checkedNumber
   checks (CheckReturns.passed el es) = rw (el, eq-eqb size (4 * L) es)
-  checks (CheckReturns.bad-length el) = rw el
+  checks (CheckReturns.bad-length el other) = rw (el, other-exact L el .0 other)
+  checks (CheckReturns.not-power-of-two h) = let r = refused-exact L .0 h in rw (r .1, r .0)
   checks (CheckReturns.bad-size el ne) = rw (el, ne-eqb size (4 * L) ne)
 
   pub check-exact : (n : ℕ) → ChecksAs L size n ↔ CheckReturns L size n
-  check-exact n = ((λ e. subst (CheckReturns L size) e (checked _ _ refl refl)), checks)
+  check-exact n = ((λ e. subst (CheckReturns L size) e (checked _ _ _ refl refl refl)), checks)
 
 -- ---- asking for a register
 
 module _ (L : ℕ) (file : List ℕ) (r : ℕ) where
-  asked : (l s b : Bool) → legal L ≡ l → eqb (length file) (4 * L) ≡ s → ltb r 32 ≡ b →
+  asked : (l m s b : Bool) → legal L ≡ l → multiple L ≡ m → eqb (length file) (4 * L) ≡ s → ltb r 32 ≡ b →
       RegisterReturns L file r (askedNumber (registerCheck L (length file) r)) (registerOf L file r)
   unfolding registerOf registerCheck checkOf askedNumber
-  asked false s b el es eb = rw el (RegisterReturns.bad-length el)
-  asked true false b el es eb = rw (el, es) (RegisterReturns.bad-size el (eqb-false (length file) (4 * L) es))
-  asked true true false el es eb =
+  asked false false s b el em es eb = rw (el, em) (RegisterReturns.bad-length el (other-exact L el .1 em))
+  asked false true s b el em es eb = rw (el, em) (RegisterReturns.not-power-of-two (refused-exact L .1 (em, el)))
+  asked true m false b el em es eb = rw (el, es) (RegisterReturns.bad-size el (eqb-false (length file) (4 * L) es))
+  asked true m true false el em es eb =
       let high : 31 < r = omega (arith, ltb-false r 32 eb) in
       rw (el, es, eb) (RegisterReturns.no-register el (eqb-true (length file) (4 * L) es) high)
-  asked true true true el es eb =
+  asked true m true true el em es eb =
       let low : r ≤ 31 = omega (arith, ltb-true r 32 eb) in
       rw (el, es, eb) (RegisterReturns.found el (eqb-true (length file) (4 * L) es) low)
 
   asks : {n : ℕ} {part : List ℕ} → RegisterReturns L file r n part → AsksAs L file r n part
   unfolding registerOf registerCheck checkOf askedNumber
   asks (RegisterReturns.found el es h) = rw (el, eq-eqb (length file) (4 * L) es, lt-ltb r 32 (omega arith)) (refl, refl)
-  asks (RegisterReturns.bad-length el) = rw el (refl, refl)
+  asks (RegisterReturns.bad-length el other) = rw (el, other-exact L el .0 other) (refl, refl)
+  asks (RegisterReturns.not-power-of-two h) = let k = refused-exact L .0 h in rw (k .1, k .0) (refl, refl)
   asks (RegisterReturns.bad-size el ne) = rw (el, ne-eqb (length file) (4 * L) ne) (refl, refl)
   asks (RegisterReturns.no-register el es h) = rw (el, eq-eqb (length file) (4 * L) es, le-ltb r 32 (omega arith)) (refl, refl)
 
   pub register-exact : (n : ℕ) (part : List ℕ) → AsksAs L file r n part ↔ RegisterReturns L file r n part
-  register-exact n part = (moved (RegisterReturns L file r) (asked _ _ _ refl refl refl), asks)
+  register-exact n part = (moved (RegisterReturns L file r) (asked _ _ _ _ refl refl refl refl), asks)
 
 -- ---- decoding
 
@@ -118,18 +123,19 @@ module _ (L : ℕ) (file : List ℕ) (qc : Bool) (words : List ℕ) where
   returned {k} r h (Ends.stop Stop.outside l e) = RunReturns.outside k r (operations k h) l (outside-exact (getD words k 0) .0 e)
   returned {k} r h (Ends.stop Stop.reserved l e) = RunReturns.reserved k r (operations k h) l (reserved-exact (getD words k 0) .0 e)
 
-  called : (l s p : Bool) → legal L ≡ l → eqb (length file) (4 * L) ≡ s → ltb 4096 (length words) ≡ p →
+  called : (l m s p : Bool) → legal L ≡ l → multiple L ≡ m → eqb (length file) (4 * L) ≡ s → ltb 4096 (length words) ≡ p →
       RunReturns L file qc words (runNumber (outcomeOf L file qc words)) (runLeft (outcomeOf L file qc words))
   unfolding endingNumber
-  called false s p el es ep = rw (refused-length L file qc words el) (RunReturns.bad-length el)
-  called true false p el es ep =
+  called false false s p el em es ep = rw (refused-length L file qc words el em) (RunReturns.bad-length el (other-exact L el .1 em))
+  called false true s p el em es ep = rw (refused-power L file qc words el em) (RunReturns.not-power-of-two (refused-exact L .1 (em, el)))
+  called true m false p el em es ep =
       let other : length file ≡ 4 * L → ⊥ = eqb-false (length file) (4 * L) es in
       rw (refused-size L file qc words el other) (RunReturns.bad-size el other)
-  called true true true el es ep =
+  called true m true true el em es ep =
       let size = eqb-true (length file) (4 * L) es in
       let long = ltb-true 4096 (length words) ep in
       rw (refused-program L file qc words el size long) (RunReturns.too-long el size long)
-  called true true false el es ep =
+  called true m true false el em es ep =
       let size = eqb-true (length file) (4 * L) es in
       let short = ltb-false 4096 (length words) ep in
       let r = run-ends L words file qc in
@@ -145,11 +151,12 @@ module _ (L : ℕ) (file : List ℕ) (qc : Bool) (words : List ℕ) where
   runs : {n : ℕ} {s : State} → RunReturns L file qc words n s → RunsAs L file qc words n s
   unfolding endingNumber
   runs (RunReturns.done r h) = runs-as r h (Ends.all refl)
-  runs (RunReturns.bad-length el) = rw (refused-length L file qc words el) (refl, refl)
+  runs (RunReturns.bad-length el other) = rw (refused-length L file qc words el (other-exact L el .0 other)) (refl, refl)
+  runs (RunReturns.not-power-of-two h) = let k = refused-exact L .0 h in rw (refused-power L file qc words (k .1) (k .0)) (refl, refl)
   runs (RunReturns.bad-size el other) = rw (refused-size L file qc words el other) (refl, refl)
   runs (RunReturns.too-long el size long) = rw (refused-program L file qc words el size long) (refl, refl)
   runs (RunReturns.outside k r h l e) = runs-as r h (Ends.stop Stop.outside l (outside-exact (getD words k 0) .1 e))
   runs (RunReturns.reserved k r h l e) = runs-as r h (Ends.stop Stop.reserved l (reserved-exact (getD words k 0) .1 e))
 
   pub call-exact : (n : ℕ) (s : State) → RunsAs L file qc words n s ↔ RunReturns L file qc words n s
-  call-exact n s = (moved (RunReturns L file qc words) (called _ _ _ refl refl refl), runs)
+  call-exact n s = (moved (RunReturns L file qc words) (called _ _ _ _ refl refl refl refl), runs)

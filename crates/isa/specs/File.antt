@@ -1,23 +1,43 @@
 -- The register file of a vector length L: 4 x L bytes, registers 0 to 31 in order, L/8 bytes each.
 use mathlib.Core.Path.{_≡_}
-use Prim.Native.Nat.{ℕ, zero, suc, _+_, _*_, _/_, _%_, _≤_}
+use Prim.Native.Nat.{ℕ, zero, suc, _+_, _*_, _/_, _%_, _^_, _≤_}
 use mathlib.Core.List.{List, [], _∷_}
-use mathlib.Core.Bool.{Bool, true, false, _&&_}
+use mathlib.Core.Bool.{Bool, true, false, _&&_, _||_}
 use lib.Dec.{leb, ltb, eqb}
 use lib.ListN.{length, getD, take, drop}
 use Rattle.isa.specs.Register.{Regs}
 use Rattle.isa.specs.declared.types.Checked.{Checked}
 use Rattle.isa.specs.declared.types.Asked.{Asked}
 
--- a vector length in bits: a multiple of 128, from 128 to 2,048
-unfoldable pub legal : ℕ → Bool
-legal L = eqb (L % 128) 0 && (leb 128 L && leb L 2048)
+-- ---- vector lengths in bits
 
--- the same, said of numbers
-pub record Legal (L : ℕ) : Type 0 where
+-- those that pass (request A5)
+unfoldable pub legal : ℕ → Bool
+legal L = eqb L 128 || (eqb L 256 || (eqb L 512 || (eqb L 1024 || eqb L 2048)))
+
+-- a multiple of 128, from 128 to 2,048
+unfoldable pub multiple : ℕ → Bool
+multiple L = eqb (L % 128) 0 && (leb 128 L && leb L 2048)
+
+-- the same, said of numbers, and what P says of powers of two
+pub record Multiple (L : ℕ) (P : Type 0) : Type 0 where
   pub whole : L % 128 ≡ 0
   pub least : 128 ≤ L
   pub most : L ≤ 2048
+  pub power : P
+
+abbrev pub PowerOfTwo : ℕ → Type 0
+PowerOfTwo L = (k : ℕ) × (L ≡ 2 ^ k)
+
+-- what `legal` passes
+abbrev pub Legal : ℕ → Type 0
+Legal L = Multiple L (PowerOfTwo L)
+
+-- number 11's lengths (request A5)
+abbrev pub NotPowerOfTwo : ℕ → Type 0
+NotPowerOfTwo L = Multiple L (PowerOfTwo L → ⊥)
+
+-- ---- a file and its registers
 
 -- f 0, f 1, .., n numbers
 unfoldable pub tabulate : ℕ → (ℕ → ℕ) → List ℕ
@@ -38,9 +58,13 @@ abbrev pub pickChecked : Bool → Checked → Checked → Checked
 pickChecked true a b = a
 pickChecked false a b = b
 
--- 1, then 2
+-- 11 for a multiple that does not pass, and 1 for every other such length
+abbrev pub lengthRefusal : ℕ → Checked
+lengthRefusal L = pickChecked (multiple L) Checked.NotPowerOfTwo Checked.BadLength
+
+-- 1 or 11, then 2
 unfoldable pub checkOf : ℕ → ℕ → Checked
-checkOf L size = pickChecked (legal L) (pickChecked (eqb size (4 * L)) Checked.Passed Checked.BadSize) Checked.BadLength
+checkOf L size = pickChecked (legal L) (pickChecked (eqb size (4 * L)) Checked.Passed Checked.BadSize) (lengthRefusal L)
 
 abbrev pub pickAsked : Bool → Asked → Asked → Asked
 pickAsked true a b = a
@@ -50,6 +74,7 @@ pickAsked false a b = b
 abbrev pub registerAfter : Checked → ℕ → Asked
 registerAfter Checked.Passed r = pickAsked (ltb r 32) Asked.Found Asked.NoRegister
 registerAfter Checked.BadLength r = Asked.BadLength
+registerAfter Checked.NotPowerOfTwo r = Asked.NotPowerOfTwo
 registerAfter Checked.BadSize r = Asked.BadSize
 
 unfoldable pub registerCheck : ℕ → ℕ → ℕ → Asked
@@ -58,6 +83,7 @@ registerCheck L size r = registerAfter (checkOf L size) r
 abbrev pub partIf : Asked → List ℕ → List ℕ
 partIf Asked.Found part = part
 partIf Asked.BadLength part = []
+partIf Asked.NotPowerOfTwo part = []
 partIf Asked.BadSize part = []
 partIf Asked.NoRegister part = []
 

@@ -1,4 +1,4 @@
--- The numbers of document 01, 'Numbers returned', for every case of every answer, and the values returned beside them.
+-- The numbers of document 01, 'Numbers returned', and request A5's 11, for every case of every answer, and the values returned beside them.
 use Prim.Native.Nat.{ℕ}
 use mathlib.Core.List.{List, [], _∷_}
 use Rattle.isa.specs.Run.{State, Outcome}
@@ -44,6 +44,7 @@ writtenWord Written.IndexLimit = 0
 unfoldable pub checkedNumber : Checked → ℕ
 checkedNumber Checked.Passed = 0
 checkedNumber Checked.BadLength = 1
+checkedNumber Checked.NotPowerOfTwo = 11
 checkedNumber Checked.BadSize = 2
 
 -- ---- asking for a register: the part is handed out by the call beside it (`registerOf`)
@@ -51,6 +52,7 @@ checkedNumber Checked.BadSize = 2
 unfoldable pub askedNumber : Asked → ℕ
 askedNumber Asked.Found = 0
 askedNumber Asked.BadLength = 1
+askedNumber Asked.NotPowerOfTwo = 11
 askedNumber Asked.BadSize = 2
 askedNumber Asked.NoRegister = 6
 
@@ -59,6 +61,7 @@ askedNumber Asked.NoRegister = 6
 unfoldable pub endingNumber : Ending → ℕ
 endingNumber Ending.Done = 0
 endingNumber Ending.BadLength = 1
+endingNumber Ending.NotPowerOfTwo = 11
 endingNumber Ending.BadSize = 2
 endingNumber Ending.TooLong = 3
 endingNumber Ending.Outside = 4

@@ -1,4 +1,4 @@
--- Document 01, 'Numbers returned': when each number is given, and what is returned and left beside it. A line holds where its own condition
+-- Document 01, 'Numbers returned', with request A5's 11: when each number is given, and what is returned and left beside it. A line holds where its own condition
 -- does and no earlier check applies. What a definition answers, as numbers and values, is `RunsAs` and its like; the theorems say that it is one
 -- exactly where the line is: `call-exact`, `check-exact`, `register-exact`, `decode-exact` (proofs/Returned.antt), `encode-exact` (proofs/Checks.antt).
 use mathlib.Core.Path.{_≡_}
@@ -9,14 +9,14 @@ use lib.ListN.{length, getD, take, drop}
 use Rattle.isa.specs.Allowed.{AllowedWord, ReservedWord, OutsideWord}
 use Rattle.isa.specs.Decode.{decodeOf}
 use Rattle.isa.specs.Encode.{writeChecks, encodeOf}
-use Rattle.isa.specs.File.{legal, checkOf, registerCheck, registerOf}
+use Rattle.isa.specs.File.{legal, NotPowerOfTwo, checkOf, registerCheck, registerOf}
 use Rattle.isa.specs.Run.{State, start, run, outcomeOf}
 use Rattle.isa.specs.Number.{decodedNumber, decodedOperation, writtenNumber, writtenWord, checkedNumber, askedNumber, runNumber, runLeft}
 use Rattle.isa.specs.declared.types.Op.{Op}
 
--- ---- executing: 1, 2, 3, then word by word 4 or 5
+-- ---- executing: 1, 11, 2, 3, then word by word 4 or 5
 
--- none of 1, 2 and 3 applies
+-- none of 1, 11, 2 and 3 applies
 pub record Runs (L : ℕ) (file words : List ℕ) : Type 0 where
   pub ok : legal L ≡ true
   pub sized : length file ≡ 4 * L
@@ -37,7 +37,8 @@ afterWords L file qc words k = record {
 -- the number, and the file, the flag and the words done
 pub data RunReturns (L : ℕ) (file : List ℕ) (qc : Bool) (words : List ℕ) : ℕ → State → Type 0 where
   done : Runs L file words → Operations words (length words) → RunReturns L file qc words 0 (afterWords L file qc words (length words))
-  bad-length : legal L ≡ false → RunReturns L file qc words 1 (start file qc)
+  bad-length : legal L ≡ false → (NotPowerOfTwo L → ⊥) → RunReturns L file qc words 1 (start file qc)
+  not-power-of-two : NotPowerOfTwo L → RunReturns L file qc words 11 (start file qc)
   bad-size : legal L ≡ true → (length file ≡ 4 * L → ⊥) → RunReturns L file qc words 2 (start file qc)
   too-long : legal L ≡ true → length file ≡ 4 * L → 4096 < length words → RunReturns L file qc words 3 (start file qc)
   outside : (k : ℕ) → Runs L file words → Operations words k → k < length words → OutsideWord (getD words k 0) →
@@ -48,21 +49,23 @@ pub data RunReturns (L : ℕ) (file : List ℕ) (qc : Bool) (words : List ℕ) :
 abbrev pub RunsAs : ℕ → List ℕ → Bool → List ℕ → ℕ → State → Type 0
 RunsAs L file qc words n s = (runNumber (outcomeOf L file qc words) ≡ n) × (runLeft (outcomeOf L file qc words) ≡ s)
 
--- ---- a length and a size alone: 1, 2
+-- ---- a length and a size alone: 1, 11, 2
 
 pub data CheckReturns (L size : ℕ) : ℕ → Type 0 where
   passed : legal L ≡ true → size ≡ 4 * L → CheckReturns L size 0
-  bad-length : legal L ≡ false → CheckReturns L size 1
+  bad-length : legal L ≡ false → (NotPowerOfTwo L → ⊥) → CheckReturns L size 1
+  not-power-of-two : NotPowerOfTwo L → CheckReturns L size 11
   bad-size : legal L ≡ true → (size ≡ 4 * L → ⊥) → CheckReturns L size 2
 
 abbrev pub ChecksAs : ℕ → ℕ → ℕ → Type 0
 ChecksAs L size n = checkedNumber (checkOf L size) ≡ n
 
--- ---- asking for a register: 1, 2, 6; the number, and the part handed out
+-- ---- asking for a register: 1, 11, 2, 6; the number, and the part handed out
 
 pub data RegisterReturns (L : ℕ) (file : List ℕ) (r : ℕ) : ℕ → List ℕ → Type 0 where
   found : legal L ≡ true → length file ≡ 4 * L → r ≤ 31 → RegisterReturns L file r 0 (take (L / 8) (drop (r * (L / 8)) file))
-  bad-length : legal L ≡ false → RegisterReturns L file r 1 []
+  bad-length : legal L ≡ false → (NotPowerOfTwo L → ⊥) → RegisterReturns L file r 1 []
+  not-power-of-two : NotPowerOfTwo L → RegisterReturns L file r 11 []
   bad-size : legal L ≡ true → (length file ≡ 4 * L → ⊥) → RegisterReturns L file r 2 []
   no-register : legal L ≡ true → length file ≡ 4 * L → 31 < r → RegisterReturns L file r 6 []
 

@@ -54,10 +54,11 @@ abbrev pub pickOutcome : Bool → Outcome → Outcome → Outcome
 pickOutcome true a b = a
 pickOutcome false a b = b
 
--- 1 and 2, then 3, then the run
+-- 1, 11 and 2, then 3, then the run
 abbrev pub checkedRun : Checked → ℕ → List ℕ → State → Outcome
 checkedRun Checked.Passed L words s = pickOutcome (ltb 4096 (length words)) (ended Ending.TooLong s) (run L words s)
 checkedRun Checked.BadLength L words s = ended Ending.BadLength s
+checkedRun Checked.NotPowerOfTwo L words s = ended Ending.NotPowerOfTwo s
 checkedRun Checked.BadSize L words s = ended Ending.BadSize s
 
 -- the whole call

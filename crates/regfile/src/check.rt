@@ -1,29 +1,38 @@
 // The checks before a file is used, in the order of their numbers.
 ghost use mathlib.Core.Path.{_≡_};
-ghost use Rattle.isa.specs.File.{checkOf, registerCheck};
+ghost use Rattle.isa.specs.File.{legal, multiple, checkOf, registerCheck};
 ghost use Rattle.isa.specs.Number.{askedNumber};
 use isa::types::Asked;
 use isa::types::Checked;
+
+// Whether l is a legal vector length.
+fn is_legal(l: usize) -> bool
+    ensures { λ r. ⌜ r ≡ legal l ⌝ }
+{
+    (l == 128) | ((l == 256) | ((l == 512) | ((l == 1024) | (l == 2048))))
+}
+
+// Whether l is a multiple of 128 from 128 to 2,048.
+fn is_multiple(l: usize) -> bool
+    ensures { λ r. ⌜ r ≡ multiple l ⌝ }
+{
+    (l % 128 == 0) & ((128 <= l) & (l <= 2048))
+}
 
 // Whether l is a legal vector length and `size` the number of bytes of its file.
 pub fn check_size(l: usize, size: usize) -> Checked
     ensures { λ r. ⌜ r ≡ checkOf l size ⌝ }
 {
-    if l < 128 {
-        return Checked::BadLength;
-    }
-    if 2048 < l {
-        return Checked::BadLength;
-    }
-    if l % 128 == 0 {
+    if is_legal(l) {
         if size == l << 2 {
-            Checked::Passed
-        } else {
-            Checked::BadSize
+            return Checked::Passed;
         }
-    } else {
-        Checked::BadLength
+        return Checked::BadSize;
     }
+    if is_multiple(l) {
+        return Checked::NotPowerOfTwo;
+    }
+    Checked::BadLength
 }
 
 // The same, and then whether there is a register n.
@@ -40,6 +49,7 @@ pub fn check_register(l: usize, size: usize, n: usize) -> Asked
             }
         }
         Checked::BadLength => Asked::BadLength,
+        Checked::NotPowerOfTwo => Asked::NotPowerOfTwo,
         Checked::BadSize => Asked::BadSize,
     }
 }
@@ -51,6 +61,7 @@ pub fn asked_number(a: Asked) -> u8
     match a {
         Asked::Found => 0,
         Asked::BadLength => 1,
+        Asked::NotPowerOfTwo => 11,
         Asked::BadSize => 2,
         Asked::NoRegister => 6,
     }

@@ -49,6 +49,12 @@ enum-told-3 c = search needs
 refused-requires-3 : tie.Need-refused-requires-3
 refused-requires-3 c κs = search needs
 
+enum-told-4 : tie.Need-enum-told-4
+enum-told-4 c = search needs
+
+refused-requires-4 : tie.Need-refused-requires-4
+refused-requires-4 c κs = search needs
+
 same-length : tie.Need-same-length
 same-length c = search needs
 
@@ -74,7 +80,14 @@ returns-4 c =
     let k = c .before .before .before in
     let a = k .before .before .before .args in
     (λ t. record { answer = c .refused3 .ensures t; file = a .file .now })
-    ∙ outcome-of (a .l) (a .file .now) (a .qc) (a .words .now) Checked.BadSize (sym (k .check-size .ensures) ∙ c .before .enum-told3 .given .1)
+    ∙ outcome-of (a .l) (a .file .now) (a .qc) (a .words .now) Checked.NotPowerOfTwo (sym (k .check-size .ensures) ∙ c .before .enum-told3 .given .1)
+
+returns-5 : tie.Need-returns-5
+returns-5 c =
+    let k = c .before .before .before in
+    let a = k .before .before .before .args in
+    (λ t. record { answer = c .refused4 .ensures t; file = a .file .now })
+    ∙ outcome-of (a .l) (a .file .now) (a .qc) (a .words .now) Checked.BadSize (sym (k .check-size .ensures) ∙ c .before .enum-told4 .given .1)
 
 pub run-spec : {M : Type 1} → statement M
 run-spec =
@@ -89,7 +102,10 @@ run-spec =
     refused-requires-2
     enum-told-3
     refused-requires-3
+    enum-told-4
+    refused-requires-4
     same-length
     returns-2
     returns-3
-    returns-4)
+    returns-4
+    returns-5)

@@ -19,6 +19,9 @@ enum-told-2 c = search needs
 enum-told-3 : tie.Need-enum-told-3
 enum-told-3 c = search needs
 
+enum-told-4 : tie.Need-enum-told-4
+enum-told-4 c = search needs
+
 returns : tie.Need-returns
 returns c =
     let t = c .before in
@@ -41,6 +44,10 @@ returns-4 : tie.Need-returns-4
 unfolding registerCheck
 returns-4 c = rw (sym (c .before .before .check-size .ensures) ∙ c .enum-told3 .given .1)
 
+returns-5 : tie.Need-returns-5
+unfolding registerCheck
+returns-5 c = rw (sym (c .before .before .check-size .ensures) ∙ c .enum-told4 .given .1)
+
 pub check-register-spec : {M : Type 1} → statement M
 check-register-spec =
     tie.close
@@ -49,7 +56,9 @@ check-register-spec =
     enum-told
     enum-told-2
     enum-told-3
+    enum-told-4
     returns
     returns-2
     returns-3
-    returns-4)
+    returns-4
+    returns-5)
