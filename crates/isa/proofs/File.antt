@@ -8,7 +8,7 @@ use Prim.Native.Nat.{ℕ, zero, suc, _+_, _*_, _/_, _%_, _^_, _<_, _≤_}
 use native.Mathlib.Omega.{arith}
 use native.Mathlib.Nat.{mul-le-mul-right, div-lt-iff-lt-mul, mod-lt, div-add-mod', pow-le-pow-right}
 use mathlib.Core.List.{List, _∷_}
-use mathlib.Core.Bool.{Bool, true, false, _||_, true≢false}
+use mathlib.Core.Bool.{Bool, true, false, _&&_, _||_, true≢false}
 use lib.ListN.{length, getD, List·getD-eq-default}
 use lib.Seq.{ext-getD}
 use lib.Arith.{digits-lt, digits-div, digits-mod}
@@ -23,11 +23,15 @@ pub cases : {A : Type 0} (t : Bool) → (t ≡ true → A) → (t ≡ false → 
 cases true if-true if-false = if-true refl
 cases false if-true if-false = if-false refl
 
--- ---- legal lengths, and those that number 11 refuses
-
 either : {A : Type 0} (a b : Bool) → (a || b) ≡ true → (a ≡ true → A) → (b ≡ true → A) → A
 either true b e left right = left refl
 either false b e left right = right e
+
+pub and-other : (a b : Bool) → (a && b) ≡ false → a ≡ true → b ≡ false
+and-other true b e h = e
+and-other false b e h = absurd (true≢false (sym h))
+
+-- ---- legal lengths, and those that number 11 refuses
 
 multiple-of : (L : ℕ) {P : Type 0} → multiple L ≡ true → P → Multiple L P
 unfolding multiple

@@ -23,10 +23,11 @@ fn is_multiple(l: usize) -> bool
 pub fn check_size(l: usize, size: usize) -> Checked
     ensures { λ r. ⌜ r ≡ checkOf l size ⌝ }
 {
-    if is_legal(l) {
-        if size == l << 2 {
-            return Checked::Passed;
-        }
+    let legal = is_legal(l);
+    if legal & (size == l << 2) {
+        return Checked::Passed;
+    }
+    if legal {
         return Checked::BadSize;
     }
     if is_multiple(l) {
