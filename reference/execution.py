@@ -1,8 +1,8 @@
 #!/usr/bin/env python3
 """The independent model of the register file, the step and the run, for any legal length.
 
-Written from document 01 and the requests A2 and A5 alone, over the models of words and lanes. A file is bytes and is never
-changed in place. Run as a program it checks itself, demand 3 on random programs included.
+Written from document 01 and the requests A2 and A5 alone, over the models of words and lanes. A file is
+bytes and is never changed in place. Run as a program it checks itself, demand 3 on random programs included.
 """
 
 import sys
@@ -43,7 +43,7 @@ def refusal_of(length, size):
 
 
 def register(length, file, n):
-    """Document 01's number, and the bytes of the register; none with a number but 0."""
+    """The number, and the bytes of the register; none with a number but 0."""
     number = refusal_of(length, len(file))
     if number == DONE and n > 31:
         number = NO_REGISTER

@@ -14,7 +14,7 @@ from execution import OUTSIDE, RESERVED
 
 MEANING = {
     0: "done",
-    1: "length not legal",
+    1: "length not a multiple of 128 from 128 to 2,048",
     11: "length not a power of two",
     2: "file not 4 x L bytes",
     3: "more than 4,096 words",

@@ -4,9 +4,10 @@ refused ones among them.
 A record begins with six little-endian numbers of 4 bytes: the kind, the vector length, the bytes of
 the file, the flag, a number, and a seed. Then come the file's bytes where the seed is 0 (any other
 seed makes them, as below). The number is that of a run's words, which come last; the word to execute;
-or the register. A line of the answer has document 01's number, the words done, the flag and a digest
-of the file that is left; for a register document 01's number, the length and a digest of the part to
-read, the length of the part to fill, and a digest of the file with that part's bytes complemented.
+or the register. A line of the answer has the number answered, the words done, the flag and a
+digest of the file that is left; for a register the number answered, the length and a digest of the
+part to read, the length of the part to fill, and a digest of the file with that part's bytes
+complemented.
 """
 
 import struct
@@ -169,8 +170,8 @@ class Maker:
 
     def single(self):
         """Every operation at every length."""
-        for (at, op), length in product(enumerate(self.operations), LENGTHS):
-            yield self.seeded(length, [self.word(self.registers(op))], at % 2)
+        for (at, op), (k, length) in product(enumerate(self.operations), enumerate(LENGTHS)):
+            yield self.seeded(length, [self.word(self.registers(op))], (at + k) % 2)
 
     def coinciding(self):
         """Every operation with its registers one, in each way."""
@@ -280,11 +281,11 @@ class Maker:
     def cleared(self):
         """Forms by element at every length, each into the first and the last register and into its sources."""
         ops = [op for op in self.operations if op.family in ELEMENT and op.index == 0]
-        for length, (at, op) in product(LENGTHS, enumerate(ops)):
+        for length, op, k in product(LENGTHS, ops, range(6)):
             most = model.limits_of(op.family, op.size)
             index = self.source.below(most[3] + 1)
             n, m = 16 + self.source.below(15), self.source.below(most[2]) + 1
-            d, n, m = ((0, n, m), (31, n, m), (n, n, m), (m, n, m), (m, m, m), (31, 30, 0))[(at + length // 128) % 6]
+            d, n, m = ((0, n, m), (31, n, m), (n, n, m), (m, n, m), (m, m, m), (31, 30, 0))[k]
             word = self.word(op._replace(destination=d, first=n, second=m, index=index))
             yield self.seeded(length, [word])
 

@@ -60,8 +60,8 @@ def empty_run(text, qc=0):
 
 
 def illegal(text, qc=0):
-    """A text with an illegal length: all of it is taken, and nothing is run."""
-    prints(text, b"answer 1 length not legal", b"words done 0", b"qc %d" % qc)
+    """A text with a length that gives 1: all of it is taken, and nothing is run."""
+    prints(text, b"answer 1 length not a multiple of 128 from 128 to 2,048", b"words done 0", b"qc %d" % qc)
 
 
 def no_power(text, qc=0):
@@ -131,9 +131,10 @@ def accepted():
 
 
 def refused():
-    for length in (0, 1, 64, 127, 129, 192, 2047, 2049, 2176, 4096, 384, 640, 1920):
+    no_powers = (384, 640, 768, 896, 1152, 1280, 1408, 1536, 1664, 1792, 1920)
+    for length in (0, 1, 64, 127, 129, 192, 2047, 2049, 2176, 4096) + no_powers:
         text = b"length %d\nz 31 %s\nword 0\n" % (length, b"ff" * (length // 8))
-        yield f"length {length}", no_power if length in (384, 640, 1920) else illegal, text
+        yield f"length {length}", no_power if length in no_powers else illegal, text
         more = text.replace(b"\nword", b" 00\nword")
         yield f"a byte more at {length}", says, more, 2, b"more bytes than a register has"
     for word in (b"0", b"0x0", b"4501D820", b"4501d820", b"0xFFFFFFFF", b"00000001"):

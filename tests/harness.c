@@ -211,8 +211,8 @@ static size_t wrong_length(void)
     switch (below(6)) {
     case 0: return next();
     case 1: return next() / 128 * 128;
-    case 2: return 128 * (size_t)(1 + below(16)); /* a power of two as well */
-    case 3: return (size_t)1 << below(64);
+    case 2: return 128 * (size_t)(1 + below(16)); /* a legal one now and then */
+    case 3: return (size_t)1 << below(64);        /* here too */
     default: return some[below(sizeof some / sizeof *some)];
     }
 }
@@ -306,9 +306,8 @@ static uint8_t whole[MOST_FILE], alone[MOST_FILE], wanted_part[MOST_FILE];
 /* A program on two files that agree up to the shorter length: what is told and left agrees too. */
 static void length_case(void)
 {
-    size_t one = legal_length(), two = one;
-    while (two < 2048 && one_in(2))
-        two *= 2;
+    uint32_t shorter = below(4), longer = shorter + 1 + below(4 - shorter);
+    size_t one = (size_t)128 << shorter, two = (size_t)128 << longer;
     size_t count = program(words, ROWS);
     bool qc = one_in(2);
     fill(whole, 4 * two);

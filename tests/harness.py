@@ -182,7 +182,8 @@ class Maker(run_cases.Maker):
         source = self.source
         length = self.length()
         if source.below(2):
-            length = source.choose((0, 1, 127, 129, 192, 2047, 2049, 2176, 4096, 2**32, 2**63, 2**64 - 128) + run_cases.NOT_POWERS)
+            wrong = (0, 1, 127, 129, 192, 2047, 2049, 2176, 4096, 2**32, 2**63, 2**64 - 128)
+            length = source.choose(wrong + run_cases.NOT_POWERS)
         size = 4 * length
         if source.below(2) or size > run_cases.MOST_BYTES:
             size = max(0, min(size, 8192) + source.choose((-512, -16, -1, 0, 1, 16, 128)))

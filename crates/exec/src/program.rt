@@ -20,7 +20,7 @@ use isa::types::Ran;
 use regfile::check::check_size;
 use regfile::part::starts;
 
-// The number of document 01.
+// The number of document 01, or request A5's.
 pub fn ending_number(e: Ending) -> u8
     ensures { λ r. ⌜ r ≡ endingNumber e ⌝ }
 {

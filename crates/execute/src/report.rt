@@ -9,8 +9,8 @@ use isa::types::Ending;
 use isa::types::Ran;
 
 // What the answers mean: a line each, as `meaning_line` counts them.
-const MEANINGS: [u8; 133] = *b" done
- length not legal
+const MEANINGS: [u8; 163] = *b" done
+ length not a multiple of 128 from 128 to 2,048
  length not a power of two
  file not 4 x L bytes
  more than 4,096 words
@@ -146,10 +146,18 @@ fn bytes_of(word: u32) -> [u8; 4] {
     ]
 }
 
+// Whether a word ended the run.
+fn at_word(ending: Ending) -> bool {
+    match ending {
+        Ending::Outside => true,
+        Ending::Reserved => true,
+        _ => false,
+    }
+}
+
 // The word that ended the run, and its place, after answers 4 and 5.
-fn put_place(out: &mut [u8], at: usize, number: u8, n: usize, words: &[u32]) -> usize {
-    let stopped = number == 4 || number == 5;
-    if !stopped || words.len() <= n {
+fn put_place(out: &mut [u8], at: usize, ending: Ending, n: usize, words: &[u32]) -> usize {
+    if !at_word(ending) || words.len() <= n {
         return at;
     }
     let bytes = bytes_of(words[n]);
@@ -168,8 +176,7 @@ pub fn put_report(
     words: &[u32],
 ) -> usize {
     let ending = ran.ending;
-    let number = exec::ending_number(ending);
     let told = put_ran(out, ending, ran.done, ran.qc);
-    let placed = put_place(out, told, number, ran.done, words);
+    let placed = put_place(out, told, ending, ran.done, words);
     put_registers(out, placed, request, before, after)
 }

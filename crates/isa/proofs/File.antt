@@ -2,7 +2,7 @@
 -- and number 1's. `fileOf-length`: the file of registers has 4 x L bytes.
 -- `fileOf-at`: its bytes are theirs. `fileOf-bytes`: a file of 4 x L bytes is the file of its bytes. `fileOf-cong` and `byteAt-ext`: a file is known by
 -- its bytes in registers 0 to 31. `bytes-same`: past register 31 any two files are the same. Assumes nothing.
-use mathlib.Core.Path.{_≡_, refl, sym, ap, ap₂, _∙_, subst}
+use mathlib.Core.Path.{_≡_, refl, sym, ap, ap₂, _∙_}
 use mathlib.Core.Logic.{_↔_}
 use Prim.Native.Nat.{ℕ, zero, suc, _+_, _*_, _/_, _%_, _^_, _<_, _≤_}
 use native.Mathlib.Omega.{arith}
@@ -13,9 +13,9 @@ use lib.ListN.{length, getD, List·getD-eq-default}
 use lib.Seq.{ext-getD}
 use lib.Arith.{digits-lt, digits-div, digits-mod}
 use lib.Dec.{ltb, leb, eqb}
-use borrow.Author.Tests.{ltb-true, ltb-false, leb-true, leb-false, eqb-true, eqb-false, le-leb, eq-eqb}
+use borrow.Author.Tests.{ltb-true, ltb-false, leb-true, leb-false, eqb-true, eqb-false}
 use Rattle.isa.specs.Register.{Regs}
-use Rattle.isa.specs.File.{legal, multiple, Multiple, PowerOfTwo, Legal, NotPowerOfTwo, tabulate, byteAt, fileOf}
+use Rattle.isa.specs.File.{legal, multiple, PowerOfTwo, NotPowerOfTwo, Legal, tabulate, byteAt, fileOf}
 use Rattle.isa.proofs.Fields.{and-left, and-right}
 
 -- both outcomes of a test
@@ -33,24 +33,21 @@ and-other false b e h = absurd (true≢false (sym h))
 
 -- ---- legal lengths, and those that number 11 refuses
 
-multiple-of : (L : ℕ) {P : Type 0} → multiple L ≡ true → P → Multiple L P
-unfolding multiple
-multiple-of L e p = record {
-  whole = eqb-true (L % 128) 0 (and-left (eqb (L % 128) 0) _ e);
-  least = leb-true 128 L (and-left (leb 128 L) _ (and-right (eqb (L % 128) 0) _ e));
-  most = leb-true L 2048 (and-right (leb 128 L) _ (and-right (eqb (L % 128) 0) _ e));
-  power = p;
-}
-
-multiple-is : (L : ℕ) {P : Type 0} → Multiple L P → multiple L ≡ true
-unfolding multiple
-multiple-is L l = rw (eq-eqb (L % 128) 0 (l .whole), le-leb 128 L (l .least), le-leb L 2048 (l .most))
-
 -- a length that is 2^k
-known : (L n k : ℕ) → n ≡ 2 ^ k → multiple n ≡ true → eqb L n ≡ true → Legal L
-known L n k power m e = subst Legal (sym (eqb-true L n e)) (multiple-of n m (k, power))
+known : (L n k : ℕ) → n ≡ 2 ^ k → multiple n ≡ true → eqb L n ≡ true → (multiple L ≡ true) × PowerOfTwo L
+known L n k power m e =
+    let same = eqb-true L n e in
+    (ap multiple same ∙ m, (k, same ∙ power))
 
--- one by one
+legal-known : (L : ℕ) → legal L ≡ true → (multiple L ≡ true) × PowerOfTwo L
+unfolding legal multiple
+legal-known L e =
+    either _ _ e (known L _ 7 refl refl)
+    (λ e. either _ _ e (known L _ 8 refl refl)
+    (λ e. either _ _ e (known L _ 9 refl refl)
+    (λ e. either _ _ e (known L _ 10 refl refl) (known L _ 11 refl refl))))
+
+-- the other way, one by one
 within : (k : ℕ) → 7 ≤ k → k < 12 → legal (2 ^ k) ≡ true
 unfolding legal
 within k low high =
@@ -62,36 +59,43 @@ within k low high =
 
 -- 2^7 to 2^11, for 2^6 is too short and 2^12 too long
 power-legal : (k : ℕ) → 128 ≤ 2 ^ k → 2 ^ k ≤ 2048 → legal (2 ^ k) ≡ true
-unfolding legal
 power-legal k least most =
     let grows : (i j : ℕ) → i ≤ j → 2 ^ i ≤ 2 ^ j = λ i j h. pow-le-pow-right {n = 2} (omega arith) {i = i} {j = j} h in
     cases (ltb k 7) (λ e. absurd (omega (arith, grows k 6 (omega (arith, ltb-true k 7 e)))))
     (λ e. cases (leb 12 k) (λ f. absurd (omega (arith, grows 12 k (leb-true 12 k f))))
     (λ f. within k (ltb-false k 7 e) (leb-false 12 k f)))
 
+multiple-power : (L : ℕ) → multiple L ≡ true → PowerOfTwo L → Legal L
+unfolding multiple
+multiple-power L e p = record {
+  whole = eqb-true (L % 128) 0 (and-left (eqb (L % 128) 0) _ e);
+  least = leb-true 128 L (and-left (leb 128 L) _ (and-right (eqb (L % 128) 0) _ e));
+  most = leb-true L 2048 (and-right (leb 128 L) _ (and-right (eqb (L % 128) 0) _ e));
+  power = p;
+}
+
 pub legal-exact : (L : ℕ) → (legal L ≡ true → Legal L) × (Legal L → legal L ≡ true)
-unfolding legal multiple
 legal-exact L = (
-  (λ e. either _ _ e (known L _ 7 refl refl)
-      (λ e. either _ _ e (known L _ 8 refl refl)
-      (λ e. either _ _ e (known L _ 9 refl refl)
-      (λ e. either _ _ e (known L _ 10 refl refl) (known L _ 11 refl refl))))),
+  (λ e. let k = legal-known L e in multiple-power L (k .0) (k .1)),
   (λ l. let e = l .power .1 in ap legal e ∙ power-legal (l .power .0) (omega (arith, l .least)) (omega (arith, l .most))),
 )
 
 module _ (L : ℕ) where
+  pub legal-multiple : legal L ≡ true → multiple L ≡ true
+  legal-multiple e = legal-known L e .0
+
   -- number 11's lengths are the multiples that do not pass
   pub refused-exact : NotPowerOfTwo L ↔ ((multiple L ≡ true) × (legal L ≡ false))
   refused-exact = (
-    (λ l. (multiple-is L l, cases (legal L) (λ e. absurd (l .power (legal-exact L .0 e .power))) (λ e. e))),
-    (λ h. multiple-of L (h .0) (λ p. true≢false (sym (legal-exact L .1 (multiple-of L (h .0) p)) ∙ h .1))),
+    (λ h. (h .0, cases (legal L) (λ e. absurd (h .1 (legal-exact L .0 e .power))) (λ e. e))),
+    (λ h. (h .0, (λ p. true≢false (sym (legal-exact L .1 (multiple-power L (h .0) p)) ∙ h .1)))),
   )
 
   -- and number 1's are the others
-  pub other-exact : legal L ≡ false → (NotPowerOfTwo L → ⊥) ↔ (multiple L ≡ false)
-  other-exact e = (
-    (λ n. cases (multiple L) (λ m. absurd (n (refused-exact .1 (m, e)))) (λ m. m)),
-    (λ m l. true≢false (sym (multiple-is L l) ∙ m)),
+  pub other-exact : ((legal L ≡ false) × (NotPowerOfTwo L → ⊥)) ↔ (multiple L ≡ false)
+  other-exact = (
+    (λ h. cases (multiple L) (λ m. absurd (h .1 (refused-exact .1 (m, h .0)))) (λ m. m)),
+    (λ m. (cases (legal L) (λ e. absurd (true≢false (sym (legal-multiple e) ∙ m))) (λ e. e), (λ h. true≢false (sym (h .0) ∙ m)))),
   )
 
 -- ---- lists by their places

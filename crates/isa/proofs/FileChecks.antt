@@ -12,40 +12,42 @@ use borrow.Author.Tests.{ltb-true, lt-ltb, le-ltb, eqb-true, eq-eqb, ne-eqb}
 use Rattle.isa.specs.declared.types.Checked.{Checked}
 use Rattle.isa.specs.declared.types.Asked.{Asked}
 use Rattle.isa.specs.File.{legal, multiple, pickChecked, checkOf, pickAsked, registerAfter, registerCheck, registerOf}
-use Rattle.isa.proofs.File.{legal-exact}
+use Rattle.isa.proofs.File.{legal-exact, legal-multiple}
 
--- ---- 1 or 11, then 2
+-- ---- 1, then 11, then 2
 
 module _ (L size : ℕ) where
-  pub check-length : legal L ≡ false → multiple L ≡ false → checkOf L size ≡ Checked.BadLength
+  pub check-length : multiple L ≡ false → checkOf L size ≡ Checked.BadLength
   unfolding checkOf
-  check-length l m = rw (l, m)
+  check-length m = rw m
 
-  pub check-power : legal L ≡ false → multiple L ≡ true → checkOf L size ≡ Checked.NotPowerOfTwo
+  pub check-power : multiple L ≡ true → legal L ≡ false → checkOf L size ≡ Checked.NotPowerOfTwo
   unfolding checkOf
-  check-power l m = rw (l, m)
+  check-power m l = rw (m, l)
 
   pub check-size : legal L ≡ true → (size ≡ 4 * L → ⊥) → checkOf L size ≡ Checked.BadSize
   unfolding checkOf
-  check-size l ne = rw (l, ne-eqb size (4 * L) ne)
+  check-size l ne = rw (legal-multiple L l, l, ne-eqb size (4 * L) ne)
 
   pub check-passed : legal L ≡ true → size ≡ 4 * L → checkOf L size ≡ Checked.Passed
   unfolding checkOf
-  check-passed l e = rw (l, eq-eqb size (4 * L) e)
+  check-passed l e = rw (legal-multiple L l, l, eq-eqb size (4 * L) e)
 
   picked-size : (b : Bool) → pickChecked b Checked.Passed Checked.BadSize ≡ Checked.Passed → b ≡ true
   picked-size true h = refl
   picked-size false h = let z : _≡_ {A = ℕ} 0 1 = cc in absurd (omega arith)
 
-  picked-both : (a b c : Bool) → pickChecked a (pickChecked b Checked.Passed Checked.BadSize) (pickChecked c Checked.NotPowerOfTwo Checked.BadLength) ≡ Checked.Passed → (a ≡ true) × (b ≡ true)
-  picked-both true b c h = (refl, picked-size b h)
-  picked-both false b true h = let z : _≡_ {A = ℕ} 0 1 = cc in absurd (omega arith)
-  picked-both false b false h = let z : _≡_ {A = ℕ} 0 1 = cc in absurd (omega arith)
+  picked-both : (m a b : Bool) →
+      pickChecked m (pickChecked a (pickChecked b Checked.Passed Checked.BadSize) Checked.NotPowerOfTwo) Checked.BadLength ≡ Checked.Passed →
+      (a ≡ true) × (b ≡ true)
+  picked-both true true b h = (refl, picked-size b h)
+  picked-both true false b h = let z : _≡_ {A = ℕ} 0 1 = cc in absurd (omega arith)
+  picked-both false a b h = let z : _≡_ {A = ℕ} 0 1 = cc in absurd (omega arith)
 
   pub passed-exact : checkOf L size ≡ Checked.Passed → (legal L ≡ true) × (size ≡ 4 * L)
   unfolding checkOf
   passed-exact h =
-      let both = picked-both (legal L) (eqb size (4 * L)) (multiple L) h in
+      let both = picked-both (multiple L) (legal L) (eqb size (4 * L)) h in
       (both .0, eqb-true size (4 * L) (both .1))
 
 -- ---- then 6

@@ -9,24 +9,25 @@ use borrow.Author.Tests.{lt-ltb, le-ltb, eq-eqb, ne-eqb}
 use Rattle.isa.specs.declared.types.Ending.{Ending}
 use Rattle.isa.specs.File.{legal, multiple, checkOf}
 use Rattle.isa.specs.Run.{start, ended, run, outcomeOf}
+use Rattle.isa.proofs.File.{legal-multiple}
 
 module _ (L : ℕ) (file : List ℕ) (qc : Bool) (words : List ℕ) where
-  pub refused-length : legal L ≡ false → multiple L ≡ false → outcomeOf L file qc words ≡ ended Ending.BadLength (start file qc)
+  pub refused-length : multiple L ≡ false → outcomeOf L file qc words ≡ ended Ending.BadLength (start file qc)
   unfolding outcomeOf checkOf
-  refused-length e m = rw (e, m)
+  refused-length m = rw m
 
-  pub refused-power : legal L ≡ false → multiple L ≡ true → outcomeOf L file qc words ≡ ended Ending.NotPowerOfTwo (start file qc)
+  pub refused-power : multiple L ≡ true → legal L ≡ false → outcomeOf L file qc words ≡ ended Ending.NotPowerOfTwo (start file qc)
   unfolding outcomeOf checkOf
-  refused-power e m = rw (e, m)
+  refused-power m e = rw (m, e)
 
   pub refused-size : legal L ≡ true → (length file ≡ 4 * L → ⊥) → outcomeOf L file qc words ≡ ended Ending.BadSize (start file qc)
   unfolding outcomeOf checkOf
-  refused-size e h = rw (e, ne-eqb (length file) (4 * L) h)
+  refused-size e h = rw (legal-multiple L e, e, ne-eqb (length file) (4 * L) h)
 
   pub refused-program : legal L ≡ true → length file ≡ 4 * L → 4096 < length words → outcomeOf L file qc words ≡ ended Ending.TooLong (start file qc)
   unfolding outcomeOf checkOf
-  refused-program e size h = rw (e, eq-eqb (length file) (4 * L) size, lt-ltb 4096 (length words) h)
+  refused-program e size h = rw (legal-multiple L e, e, eq-eqb (length file) (4 * L) size, lt-ltb 4096 (length words) h)
 
   pub run-otherwise : legal L ≡ true → length file ≡ 4 * L → length words ≤ 4096 → outcomeOf L file qc words ≡ run L words (start file qc)
   unfolding outcomeOf checkOf
-  run-otherwise e size h = rw (e, eq-eqb (length file) (4 * L) size, le-ltb 4096 (length words) h)
+  run-otherwise e size h = rw (legal-multiple L e, e, eq-eqb (length file) (4 * L) size, le-ltb 4096 (length words) h)

@@ -1,4 +1,4 @@
--- Document 01, 'Numbers returned', exactly: `call-exact` (a run), `check-exact` (a length and a size), `register-exact` (asking for a register) and
+-- Document 01, 'Numbers returned', with request A5's 11, exactly: `call-exact` (a run), `check-exact` (a length and a size), `register-exact` (asking for a register) and
 -- `decode-exact`; `encode-exact` stands in Checks. Assumes nothing.
 use mathlib.Core.Path.{_≡_, refl, sym, ap, _∙_, subst}
 use mathlib.Core.Logic.{_↔_}
@@ -20,7 +20,7 @@ use Rattle.isa.specs.File.{legal, multiple, checkOf, registerCheck, regi
 use Rattle.isa.specs.Run.{State, start, Outcome, run, outcomeOf}
 use Rattle.isa.specs.Number.{decodedNumber, decodedOperation, writtenNumber, writtenWord, checkedNumber, askedNumber, endingNumber, runNumber, runLeft}
 use Rattle.isa.specs.Returned.{Runs, Operations, afterWords, RunReturns, RunsAs, CheckReturns, ChecksAs, RegisterReturns, AsksAs, WriteReturns, DecodeReturns, DecodesAs}
-use Rattle.isa.proofs.File.{refused-exact, other-exact}
+use Rattle.isa.proofs.File.{legal-multiple, refused-exact, other-exact}
 use Rattle.isa.proofs.Order.{refused-length, refused-power, refused-size, refused-program, run-otherwise}
 use Rattle.isa.proofs.Run.{Stop, Worked, Ends, finished, run-ends, run-exact, run-prefix}
 use Rattle.isa.proofs.Checks.{passed, word-exact, encode-exact}
@@ -34,19 +34,19 @@ moved P {a} {x} {b} {y} p e = subst (λ u. P u y) (e .0) (subst (P a) (e .1) p)
 -- ---- a length and a size
 
 module _ (L size : ℕ) where
-  checked : (l m s : Bool) → legal L ≡ l → multiple L ≡ m → eqb size (4 * L) ≡ s → CheckReturns L size (checkedNumber (checkOf L size))
+  checked : (m l s : Bool) → multiple L ≡ m → legal L ≡ l → eqb size (4 * L) ≡ s → CheckReturns L size (checkedNumber (checkOf L size))
   unfolding checkOf checkedNumber
-  checked false false s el em es = rw (el, em) (CheckReturns.bad-length el (other-exact L el .1 em))
-  checked false true s el em es = rw (el, em) (CheckReturns.not-power-of-two (refused-exact L .1 (em, el)))
-  checked true m false el em es = rw (el, es) (CheckReturns.bad-size el (eqb-false size (4 * L) es))
-  checked true m true el em es = rw (el, es) (CheckReturns.passed el (eqb-true size (4 * L) es))
+  checked false l s em el es = let o = other-exact L .1 em in rw em (CheckReturns.bad-length (o .0) (o .1))
+  checked true false s em el es = rw (em, el) (CheckReturns.not-power-of-two (refused-exact L .1 (em, el)))
+  checked true true false em el es = rw (em, el, es) (CheckReturns.bad-size el (eqb-false size (4 * L) es))
+  checked true true true em el es = rw (em, el, es) (CheckReturns.passed el (eqb-true size (4 * L) es))
 
   checks : {n : ℕ} → CheckReturns L size n → checkedNumber (checkOf L size) ≡ n
   unfolding checkOf checkedNumber
-  checks (CheckReturns.passed el es) = rw (el, eq-eqb size (4 * L) es)
-  checks (CheckReturns.bad-length el other) = rw (el, other-exact L el .0 other)
-  checks (CheckReturns.not-power-of-two h) = let r = refused-exact L .0 h in rw (r .1, r .0)
-  checks (CheckReturns.bad-size el ne) = rw (el, ne-eqb size (4 * L) ne)
+  checks (CheckReturns.passed el es) = rw (legal-multiple L el, el, eq-eqb size (4 * L) es)
+  checks (CheckReturns.bad-length el other) = rw (other-exact L .0 (el, other))
+  checks (CheckReturns.not-power-of-two h) = let r = refused-exact L .0 h in rw (r .0, r .1)
+  checks (CheckReturns.bad-size el ne) = rw (legal-multiple L el, el, ne-eqb size (4 * L) ne)
 
   pub check-exact : (n : ℕ) → ChecksAs L size n ↔ CheckReturns L size n
   check-exact n = ((λ e. subst (CheckReturns L size) e (checked _ _ _ refl refl refl)), checks)
@@ -54,26 +54,26 @@ module _ (L size : ℕ) where
 -- ---- asking for a register
 
 module _ (L : ℕ) (file : List ℕ) (r : ℕ) where
-  asked : (l m s b : Bool) → legal L ≡ l → multiple L ≡ m → eqb (length file) (4 * L) ≡ s → ltb r 32 ≡ b →
+  asked : (m l s b : Bool) → multiple L ≡ m → legal L ≡ l → eqb (length file) (4 * L) ≡ s → ltb r 32 ≡ b →
       RegisterReturns L file r (askedNumber (registerCheck L (length file) r)) (registerOf L file r)
   unfolding registerOf registerCheck checkOf askedNumber
-  asked false false s b el em es eb = rw (el, em) (RegisterReturns.bad-length el (other-exact L el .1 em))
-  asked false true s b el em es eb = rw (el, em) (RegisterReturns.not-power-of-two (refused-exact L .1 (em, el)))
-  asked true m false b el em es eb = rw (el, es) (RegisterReturns.bad-size el (eqb-false (length file) (4 * L) es))
-  asked true m true false el em es eb =
+  asked false l s b em el es eb = let o = other-exact L .1 em in rw em (RegisterReturns.bad-length (o .0) (o .1))
+  asked true false s b em el es eb = rw (em, el) (RegisterReturns.not-power-of-two (refused-exact L .1 (em, el)))
+  asked true true false b em el es eb = rw (em, el, es) (RegisterReturns.bad-size el (eqb-false (length file) (4 * L) es))
+  asked true true true false em el es eb =
       let high : 31 < r = omega (arith, ltb-false r 32 eb) in
-      rw (el, es, eb) (RegisterReturns.no-register el (eqb-true (length file) (4 * L) es) high)
-  asked true m true true el em es eb =
+      rw (em, el, es, eb) (RegisterReturns.no-register el (eqb-true (length file) (4 * L) es) high)
+  asked true true true true em el es eb =
       let low : r ≤ 31 = omega (arith, ltb-true r 32 eb) in
-      rw (el, es, eb) (RegisterReturns.found el (eqb-true (length file) (4 * L) es) low)
+      rw (em, el, es, eb) (RegisterReturns.found el (eqb-true (length file) (4 * L) es) low)
 
   asks : {n : ℕ} {part : List ℕ} → RegisterReturns L file r n part → AsksAs L file r n part
   unfolding registerOf registerCheck checkOf askedNumber
-  asks (RegisterReturns.found el es h) = rw (el, eq-eqb (length file) (4 * L) es, lt-ltb r 32 (omega arith)) (refl, refl)
-  asks (RegisterReturns.bad-length el other) = rw (el, other-exact L el .0 other) (refl, refl)
-  asks (RegisterReturns.not-power-of-two h) = let k = refused-exact L .0 h in rw (k .1, k .0) (refl, refl)
-  asks (RegisterReturns.bad-size el ne) = rw (el, ne-eqb (length file) (4 * L) ne) (refl, refl)
-  asks (RegisterReturns.no-register el es h) = rw (el, eq-eqb (length file) (4 * L) es, le-ltb r 32 (omega arith)) (refl, refl)
+  asks (RegisterReturns.found el es h) = rw (legal-multiple L el, el, eq-eqb (length file) (4 * L) es, lt-ltb r 32 (omega arith)) (refl, refl)
+  asks (RegisterReturns.bad-length el other) = rw (other-exact L .0 (el, other)) (refl, refl)
+  asks (RegisterReturns.not-power-of-two h) = let k = refused-exact L .0 h in rw (k .0, k .1) (refl, refl)
+  asks (RegisterReturns.bad-size el ne) = rw (legal-multiple L el, el, ne-eqb (length file) (4 * L) ne) (refl, refl)
+  asks (RegisterReturns.no-register el es h) = rw (legal-multiple L el, el, eq-eqb (length file) (4 * L) es, le-ltb r 32 (omega arith)) (refl, refl)
 
   pub register-exact : (n : ℕ) (part : List ℕ) → AsksAs L file r n part ↔ RegisterReturns L file r n part
   register-exact n part = (moved (RegisterReturns L file r) (asked _ _ _ _ refl refl refl refl), asks)
@@ -123,19 +123,19 @@ module _ (L : ℕ) (file : List ℕ) (qc : Bool) (words : List ℕ) where
   returned {k} r h (Ends.stop Stop.outside l e) = RunReturns.outside k r (operations k h) l (outside-exact (getD words k 0) .0 e)
   returned {k} r h (Ends.stop Stop.reserved l e) = RunReturns.reserved k r (operations k h) l (reserved-exact (getD words k 0) .0 e)
 
-  called : (l m s p : Bool) → legal L ≡ l → multiple L ≡ m → eqb (length file) (4 * L) ≡ s → ltb 4096 (length words) ≡ p →
+  called : (m l s p : Bool) → multiple L ≡ m → legal L ≡ l → eqb (length file) (4 * L) ≡ s → ltb 4096 (length words) ≡ p →
       RunReturns L file qc words (runNumber (outcomeOf L file qc words)) (runLeft (outcomeOf L file qc words))
   unfolding endingNumber
-  called false false s p el em es ep = rw (refused-length L file qc words el em) (RunReturns.bad-length el (other-exact L el .1 em))
-  called false true s p el em es ep = rw (refused-power L file qc words el em) (RunReturns.not-power-of-two (refused-exact L .1 (em, el)))
-  called true m false p el em es ep =
+  called false l s p em el es ep = let o = other-exact L .1 em in rw (refused-length L file qc words em) (RunReturns.bad-length (o .0) (o .1))
+  called true false s p em el es ep = rw (refused-power L file qc words em el) (RunReturns.not-power-of-two (refused-exact L .1 (em, el)))
+  called true true false p em el es ep =
       let other : length file ≡ 4 * L → ⊥ = eqb-false (length file) (4 * L) es in
       rw (refused-size L file qc words el other) (RunReturns.bad-size el other)
-  called true m true true el em es ep =
+  called true true true true em el es ep =
       let size = eqb-true (length file) (4 * L) es in
       let long = ltb-true 4096 (length words) ep in
       rw (refused-program L file qc words el size long) (RunReturns.too-long el size long)
-  called true m true false el em es ep =
+  called true true true false em el es ep =
       let size = eqb-true (length file) (4 * L) es in
       let short = ltb-false 4096 (length words) ep in
       let r = run-ends L words file qc in
@@ -151,8 +151,8 @@ module _ (L : ℕ) (file : List ℕ) (qc : Bool) (words : List ℕ) where
   runs : {n : ℕ} {s : State} → RunReturns L file qc words n s → RunsAs L file qc words n s
   unfolding endingNumber
   runs (RunReturns.done r h) = runs-as r h (Ends.all refl)
-  runs (RunReturns.bad-length el other) = rw (refused-length L file qc words el (other-exact L el .0 other)) (refl, refl)
-  runs (RunReturns.not-power-of-two h) = let k = refused-exact L .0 h in rw (refused-power L file qc words (k .1) (k .0)) (refl, refl)
+  runs (RunReturns.bad-length el other) = rw (refused-length L file qc words (other-exact L .0 (el, other))) (refl, refl)
+  runs (RunReturns.not-power-of-two h) = let k = refused-exact L .0 h in rw (refused-power L file qc words (k .0) (k .1)) (refl, refl)
   runs (RunReturns.bad-size el other) = rw (refused-size L file qc words el other) (refl, refl)
   runs (RunReturns.too-long el size long) = rw (refused-program L file qc words el size long) (refl, refl)
   runs (RunReturns.outside k r h l e) = runs-as r h (Ends.stop Stop.outside l (outside-exact (getD words k 0) .1 e))

@@ -19,23 +19,20 @@ legal L = eqb L 128 || (eqb L 256 || (eqb L 512 || (eqb L 1024 || eqb L 2048)))
 unfoldable pub multiple : ℕ → Bool
 multiple L = eqb (L % 128) 0 && (leb 128 L && leb L 2048)
 
--- the same, said of numbers, and what P says of powers of two
-pub record Multiple (L : ℕ) (P : Type 0) : Type 0 where
-  pub whole : L % 128 ≡ 0
-  pub least : 128 ≤ L
-  pub most : L ≤ 2048
-  pub power : P
-
+-- there is a k
 abbrev pub PowerOfTwo : ℕ → Type 0
 PowerOfTwo L = (k : ℕ) × (L ≡ 2 ^ k)
 
--- what `legal` passes
-abbrev pub Legal : ℕ → Type 0
-Legal L = Multiple L (PowerOfTwo L)
-
 -- number 11's lengths (request A5)
 abbrev pub NotPowerOfTwo : ℕ → Type 0
-NotPowerOfTwo L = Multiple L (PowerOfTwo L → ⊥)
+NotPowerOfTwo L = (multiple L ≡ true) × (PowerOfTwo L → ⊥)
+
+-- what `legal` passes, said of numbers
+pub record Legal (L : ℕ) : Type 0 where
+  pub whole : L % 128 ≡ 0
+  pub least : 128 ≤ L
+  pub most : L ≤ 2048
+  pub power : PowerOfTwo L
 
 -- ---- a file and its registers
 
@@ -58,13 +55,10 @@ abbrev pub pickChecked : Bool → Checked → Checked → Checked
 pickChecked true a b = a
 pickChecked false a b = b
 
--- 11 for a multiple that does not pass, and 1 for every other such length
-abbrev pub lengthRefusal : ℕ → Checked
-lengthRefusal L = pickChecked (multiple L) Checked.NotPowerOfTwo Checked.BadLength
-
--- 1 or 11, then 2
+-- 1, then 11, then 2
 unfoldable pub checkOf : ℕ → ℕ → Checked
-checkOf L size = pickChecked (legal L) (pickChecked (eqb size (4 * L)) Checked.Passed Checked.BadSize) (lengthRefusal L)
+checkOf L size =
+    pickChecked (multiple L) (pickChecked (legal L) (pickChecked (eqb size (4 * L)) Checked.Passed Checked.BadSize) Checked.NotPowerOfTwo) Checked.BadLength
 
 abbrev pub pickAsked : Bool → Asked → Asked → Asked
 pickAsked true a b = a

@@ -1,6 +1,7 @@
--- Document 01, 'Numbers returned', with request A5's 11: when each number is given, and what is returned and left beside it. A line holds where its own condition
--- does and no earlier check applies. What a definition answers, as numbers and values, is `RunsAs` and its like; the theorems say that it is one
--- exactly where the line is: `call-exact`, `check-exact`, `register-exact`, `decode-exact` (proofs/Returned.antt), `encode-exact` (proofs/Checks.antt).
+-- Document 01, 'Numbers returned', with request A5's 11: when each number is given, and what is returned and left beside it. A line holds where its
+-- own condition does and no earlier check applies. What a definition answers, as numbers and values, is `RunsAs` and its like; the theorems say that it
+-- is one exactly where the line is: `call-exact`, `check-exact`, `register-exact`, `decode-exact` (proofs/Returned.antt), `encode-exact`
+-- (proofs/Checks.antt).
 use mathlib.Core.Path.{_≡_}
 use Prim.Native.Nat.{ℕ, _*_, _/_, _<_, _≤_}
 use mathlib.Core.Bool.{Bool, true, false}

@@ -1,4 +1,4 @@
-// The checks before a file is used, in the order of their numbers.
+// The checks before a file is used. What is answered is the first refusal that applies: 1, 11, 2, then 6.
 ghost use mathlib.Core.Path.{_≡_};
 ghost use Rattle.isa.specs.File.{legal, multiple, checkOf, registerCheck};
 ghost use Rattle.isa.specs.Number.{askedNumber};
@@ -19,7 +19,8 @@ fn is_multiple(l: usize) -> bool
     (l % 128 == 0) & ((128 <= l) & (l <= 2048))
 }
 
-// Whether l is a legal vector length and `size` the number of bytes of its file.
+// Whether l is a legal vector length and `size` the number of bytes of its file. Both are tested together first: tested one in the other, they cost
+// the run's loop an instruction a word.
 pub fn check_size(l: usize, size: usize) -> Checked
     ensures { λ r. ⌜ r ≡ checkOf l size ⌝ }
 {
@@ -55,7 +56,7 @@ pub fn check_register(l: usize, size: usize, n: usize) -> Asked
     }
 }
 
-// The number of document 01.
+// The number of document 01, or request A5's.
 pub fn asked_number(a: Asked) -> u8
     ensures { λ r. ⌜ r ≡ askedNumber a ⌝ }
 {

@@ -1,4 +1,4 @@
--- `exec::program::run` meets its contract: the checks in the order of their numbers, then the run.
+-- `exec::program::run` meets its contract: the checks in their order, then the run.
 -- Assumes nothing.
 use borrow.Author.Needs.{needs}
 use mathlib.Core.Path.{sym, _∙_}
