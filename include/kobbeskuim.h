@@ -6,12 +6,13 @@
  * pointer is aligned for its type and good for the length beside it.
  *
  * A part of memory is a pointer and then a length, which counts elements. Memory
- * is only used during the call. The pointer is not null, also where the length is
- * 0. A part that a call writes to (a pointer with no const) overlaps no other part
- * of the same call. No call keeps state, so threads may call at the same time.
+ * is only used during the call. Where the length is 0 the pointer may be null, in
+ * every part of every call: nothing is read or written through it. A part that a
+ * call writes to (a pointer with no const) overlaps no other part of the same call.
+ * No call keeps state, so threads may call at the same time.
  *
- * Link with libcapi.a, which './kob staticlib' builds (x86-64 Linux). Of the C
- * library it needs memset alone.
+ * Link with libkobbeskuim.a or libkobbeskuim.so, which './kob staticlib' builds
+ * (x86-64 Linux). Of the C library its code needs memset alone.
  */
 #ifndef KOBBESKUIM_H
 #define KOBBESKUIM_H
@@ -20,9 +21,18 @@
 #include <stddef.h>
 #include <stdint.h>
 
+/* A cast that -Wold-style-cast passes in C++. */
 #ifdef __cplusplus
+#define KOB_CAST(type, value) static_cast<type>(value)
 extern "C" {
+#else
+#define KOB_CAST(type, value) ((type)(value))
 #endif
+
+#define KOB_VERSION "0.2.0"
+#define KOB_VERSION_MAJOR 0
+#define KOB_VERSION_MINOR 2
+#define KOB_VERSION_PATCH 0
 
 /* ---- limits */
 
@@ -37,7 +47,7 @@ extern "C" {
  * element 0 first; 4 x L bytes together. Register Vn is the first 16 bytes of Zn;
  * SQRDMLAH and SQRDMLSH write Vn, and that makes the rest of Zn zero. */
 #define KOB_REGISTERS 32
-#define KOB_FILE_SIZE(l) ((size_t)4 * (l))
+#define KOB_FILE_SIZE(l) (KOB_CAST(size_t, 4) * (l))
 #define KOB_FILE_SIZE_MAX 8192
 
 /* The most words of a program. */
@@ -48,22 +58,43 @@ extern "C" {
 
 /* ---- numbers answered */
 
-#define KOB_DONE 0         /* done */
-#define KOB_BAD_LENGTH 1   /* L is not a multiple of 128 from 128 to 2,048 */
-#define KOB_BAD_SIZE 2     /* the file is not 4 x L bytes */
-#define KOB_TOO_LONG 3     /* more than 4,096 words */
-#define KOB_OUTSIDE 4      /* a word of no family here */
-#define KOB_RESERVED 5     /* a reserved word: SQRDMLAH or SQRDMLSH with size 00 or 11 */
-#define KOB_NO_REGISTER 6  /* a register above 31 was asked for */
-#define KOB_NO_SIZE 7      /* a size that the family lacks */
-#define KOB_NO_ROTATION 8  /* a rotation that the family lacks */
-#define KOB_REGISTER_LIMIT 9 /* a register field above its limit */
-#define KOB_INDEX_LIMIT 10 /* an index above its limit */
-#define KOB_NOT_POWER_OF_TWO 11 /* L is a multiple of 128 from 128 to 2,048, but not a power of two */
+#define KOB_DONE 0
+#define KOB_BAD_LENGTH 1
+#define KOB_BAD_SIZE 2
+#define KOB_TOO_LONG 3
+#define KOB_OUTSIDE 4  /* a word of no family here */
+#define KOB_RESERVED 5 /* SQRDMLAH or SQRDMLSH with size 00 or 11 */
+#define KOB_NO_REGISTER 6
+#define KOB_NO_SIZE 7
+#define KOB_NO_ROTATION 8
+#define KOB_REGISTER_LIMIT 9
+#define KOB_INDEX_LIMIT 10
+#define KOB_NOT_POWER_OF_TWO 11 /* but a multiple of 128 from 128 to 2,048 */
 
 /* Numbers of these calls alone, above every number of the library. */
-#define KOB_BAD_FIELDS 32   /* a lent part of other than 8 numbers */
-#define KOB_NO_OPERATION 33 /* fields that name no operation */
+#define KOB_BAD_FIELDS 32
+#define KOB_NO_OPERATION 33
+
+/* The text of a number. */
+static inline const char *kob_text(unsigned number) {
+    switch (number) {
+    case KOB_DONE: return "done";
+    case KOB_BAD_LENGTH: return "length not a multiple of 128 from 128 to 2,048";
+    case KOB_BAD_SIZE: return "file not 4 x L bytes";
+    case KOB_TOO_LONG: return "more than 4,096 words";
+    case KOB_OUTSIDE: return "word outside the set";
+    case KOB_RESERVED: return "reserved word";
+    case KOB_NO_REGISTER: return "register above 31";
+    case KOB_NO_SIZE: return "size that the family lacks";
+    case KOB_NO_ROTATION: return "rotation that the family lacks";
+    case KOB_REGISTER_LIMIT: return "register field above its limit";
+    case KOB_INDEX_LIMIT: return "index above its limit";
+    case KOB_NOT_POWER_OF_TWO: return "length not a power of two";
+    case KOB_BAD_FIELDS: return "fields not 8 numbers";
+    case KOB_NO_OPERATION: return "fields that name no operation";
+    default: return "no number of this library";
+    }
+}
 
 /* ---- running a program */
 
@@ -80,9 +111,9 @@ uint64_t kob_run(size_t l, uint8_t *file, size_t file_length, bool qc,
 
 /* The answer's parts: the number in bits 0 to 7, the flag in bit 8, the words
  * done (0 to 4,096) in bits 16 to 31; the other bits are 0. */
-static inline unsigned kob_run_number(uint64_t answer) { return (unsigned)(answer & 0xFF); }
+static inline unsigned kob_run_number(uint64_t answer) { return KOB_CAST(unsigned, answer & 0xFF); }
 static inline bool kob_run_flag(uint64_t answer) { return (answer >> 8 & 1) != 0; }
-static inline unsigned kob_run_done(uint64_t answer) { return (unsigned)(answer >> 16 & 0xFFFF); }
+static inline unsigned kob_run_done(uint64_t answer) { return KOB_CAST(unsigned, answer >> 16 & 0xFFFF); }
 
 /* ---- where a register stands */
 
@@ -95,9 +126,9 @@ uint64_t kob_register(size_t l, size_t size, size_t n);
 /* The answer's parts: the number in bits 0 to 7, the start in bits 16 to 39 (at
  * most 7,936), the length in bits 40 to 63 (at most 256), both in bytes and both 0
  * on a refusal; bits 8 to 15 are 0. */
-static inline unsigned kob_register_number(uint64_t answer) { return (unsigned)(answer & 0xFF); }
-static inline size_t kob_register_start(uint64_t answer) { return (size_t)(answer >> 16 & 0xFFFFFF); }
-static inline size_t kob_register_length(uint64_t answer) { return (size_t)(answer >> 40); }
+static inline unsigned kob_register_number(uint64_t answer) { return KOB_CAST(unsigned, answer & 0xFF); }
+static inline size_t kob_register_start(uint64_t answer) { return answer >> 16 & 0xFFFFFF; }
+static inline size_t kob_register_length(uint64_t answer) { return answer >> 40; }
 
 /* ---- words and their fields */
 
@@ -158,13 +189,13 @@ uint64_t kob_encode(const uint32_t *fields, size_t length);
 
 /* The answer's parts: the number in the low half, the word in the high half, which
  * is 0 on a refusal. */
-static inline uint32_t kob_encode_number(uint64_t answer) { return (uint32_t)(answer & 0xFFFFFFFF); }
-static inline uint32_t kob_encode_word(uint64_t answer) { return (uint32_t)(answer >> 32); }
+static inline uint32_t kob_encode_number(uint64_t answer) { return KOB_CAST(uint32_t, answer & 0xFFFFFFFF); }
+static inline uint32_t kob_encode_word(uint64_t answer) { return KOB_CAST(uint32_t, answer >> 32); }
 
 /* ---- the listing */
 
 /* The room that a listing of so many bytes asks for: 21 for each whole word, 32 more. */
-#define KOB_LIST_ROOM(length) ((size_t)21 * ((size_t)(length) / 4) + 32)
+#define KOB_LIST_ROOM(length) (KOB_CAST(size_t, 21) * ((length) / 4) + 32)
 
 /* kob_list's answer where `out` is shorter than that. */
 #define KOB_NO_ROOM UINT64_MAX

@@ -1,7 +1,7 @@
 #!/usr/bin/env python3
 """The independent model of what a lane becomes, in unbounded integers, lane by lane.
 
-Written from document 01's two tables alone. A register is bytes; its elements are signed numbers,
+Written from document 01, 'What a lane becomes', alone. A register is bytes; its elements are signed numbers,
 and a complex number is an even (real) and odd (imaginary) pair of them. Run as a program it checks
 itself and says so.
 """

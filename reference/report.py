@@ -36,19 +36,26 @@ def parts(data, width):
     return [data[at : at + width] for at in range(0, len(data), width)]
 
 
+def lanes(data, width):
+    """The whole lanes; only at a length that is refused is anything left over."""
+    return [int.from_bytes(part, "little", signed=True) for part in parts(data, width) if len(part) == width]
+
+
 def contents(register, size):
     if size is None:
-        return " ".join(part.hex().upper() for part in parts(register, 16))
-    return " ".join(str(int.from_bytes(part, "little", signed=True)) for part in parts(register, WIDTH[size]))
+        return [part.hex().upper() for part in parts(register, 16)]
+    return map(str, lanes(register, WIDTH[size]))
 
 
 def lines(text):
-    length, flag, size, words, given = 0, False, None, [], {}
+    length, flag, size, words, given, shown = 0, False, None, [], {}, set()
     for name, *rest in statements(text):
         if name == "length":
             length = int(rest[0])
         elif name == "qc":
             flag = rest[0] == "1"
+        elif name == "show" and rest[0].startswith("z"):
+            shown.add(int("".join(rest)[1:]))
         elif name == "show":
             size = rest[0]
         elif name == "word":
@@ -67,8 +74,8 @@ def lines(text):
         yield f"at word {ran.done} {words[ran.done]:08X}"
     for n in range(32):
         place = slice(n * width, (n + 1) * width)
-        if ran.file[place] != file[place]:
-            yield f"z{n} {contents(ran.file[place], size)}"
+        if n in shown or ran.file[place] != file[place]:
+            yield " ".join([f"z{n}", *contents(ran.file[place], size)])
 
 
 def report(text):

@@ -1,22 +1,21 @@
 #!/bin/bash
-# Builds each example against the archive, runs it, and compares what it prints; and looks at what the
-# archive asks for. It is built by './kob staticlib' where it is not there. Progress goes to standard error.
+# Builds each example against the archive, runs it, and compares what it prints; tests the Rust crate, and
+# uses it as installed in a new project; and looks at what the archive asks for. It is built by
+# './kob staticlib' where it is not there. Progress goes to standard error.
 cd "$(dirname "$0")/.." || exit 1
-archive=target/staticlib/libcapi.a
+archive=target/staticlib/libkobbeskuim.a
 [ -f "$archive" ] || ./kob staticlib >/dev/null || exit 1
 work=$(mktemp -d) || exit 1
-trap 'rm -rf "$work"' EXIT
+trap 'chmod -R u+w "$work"; rm -rf "$work"' EXIT
 count=0
 failed=0
 
-# example NAME EXPECTED COMMAND..: the command builds $work/NAME, which is then run
-example() {
+# prints NAME EXPECTED COMMAND..: the command succeeds and prints that
+prints() {
     local name=$1 expected=$2 printed
     shift 2
     count=$((count + 1))
-    if ! "$@" -o "$work/$name" >&2; then
-        echo "capi: $name was not built" >&2
-    elif ! printed=$("$work/$name"); then
+    if ! printed=$("$@"); then
         echo "capi: $name failed" >&2
     elif [ "$printed" != "$expected" ]; then
         printf 'capi: %s printed\n%s\nand not\n%s\n' "$name" "$printed" "$expected" >&2
@@ -26,18 +25,83 @@ example() {
     failed=$((failed + 1))
 }
 
-strict='-Wall -Wextra -Wpedantic -Wconversion -Werror'
+built() { # NAME COMMAND..
+    local program=$work/$1
+    shift
+    "$@" -o "$program" >&2 && "$program"
+}
+
+# example NAME EXPECTED COMMAND..: the command builds $work/NAME, which is then run
+example() {
+    prints "$1" "$2" built "$1" "${@:3}"
+}
+
+# ---- C and C++
+
+strict='-Wall -Wextra -Wpedantic -Wconversion -Wsign-conversion -Werror'
 first='number 0, done 1, lane 0 is 127'
 example first-c "$first" gcc -std=c99 $strict -Iinclude examples/c/first.c "$archive"
+example first-shared "$first" gcc -std=c99 $strict -Iinclude examples/c/first.c -Ltarget/sharedlib -lkobbeskuim -Wl,-rpath,"$PWD/target/sharedlib"
 example first-c++ "$first" g++ -std=c++11 $strict -Iinclude -x c++ examples/c/first.c -x none "$archive"
 if command -v pkg-config >/dev/null; then
     example first-pkg-config "$first" gcc -std=c99 $strict examples/c/first.c \
         $(PKG_CONFIG_PATH=. pkg-config --cflags --libs kobbeskuim)
+else
+    echo 'capi: not run: first.c by pkg-config, which is not there' >&2
 fi
-example rust 'kobbeskuim: every call answers as it should' \
-    rustc --edition 2021 -O -D warnings -A dead_code examples/rust/kobbeskuim.rs -L target/staticlib -l static=capi
 
-# What the archive asks for beside what it has.
+empty='run, no words: 0 done
+run, no file: 2 file not 4 x L bytes
+run, neither: 1 length not a multiple of 128 from 128 to 2,048
+decode, no fields: 32 fields not 8 numbers
+encode, no fields: 32 fields not 8 numbers
+list, no bytes: TOTAL 0
+list, no room: refused'
+vectors="run: 0 done
+lane 0 is 127
+$empty
+$empty"
+stricter="$strict -Wold-style-cast -Wuseless-cast -Wzero-as-null-pointer-constant"
+everything='-Weverything -Wno-c++98-compat -Wno-c++98-compat-pedantic -Werror'
+command -v clang++ >/dev/null || echo 'capi: not run: vectors.cc by clang++, which is not there' >&2
+for standard in c++11 c++20; do
+    from="-std=$standard -Iinclude examples/c++/vectors.cc $archive"
+    example "vectors-g++-$standard" "$vectors" g++ $stricter $from
+    command -v clang++ >/dev/null && example "vectors-clang++-$standard" "$vectors" clang++ $everything $from
+done
+
+# ---- Rust
+
+# Its target folder is outside of the tree, and --locked keeps its Cargo.lock.
+crate_tests() {
+    cargo test --quiet --offline --locked --manifest-path bindings/rust/Cargo.toml >&2
+}
+
+# The crate with no right to write, as in a prefix.
+install_crate() { # PREFIX
+    mkdir -p "$1/lib" "$1/share/kobbeskuim/rust" && cp "$archive" "$1/lib" &&
+        cp -r bindings/rust/{Cargo.toml,Cargo.lock,build.rs,src} "$1/share/kobbeskuim/rust" && chmod -R a-w "$1"
+}
+
+new_project() {
+    local prefix="$work/the prefix" project="$work/the project"
+    install_crate "$prefix" && cargo new --quiet --vcs none --edition 2024 --name bench "$project" >&2 || return
+    echo "kobbeskuim = { path = '$prefix/share/kobbeskuim/rust' }" >>"$project/Cargo.toml"
+    cp bindings/rust/examples/first.rs "$project/src/main.rs"
+    cargo run --quiet --offline --manifest-path "$project/Cargo.toml"
+}
+
+minor=$(cargo --version 2>/dev/null | sed -n 's/^cargo 1\.\([0-9]*\)\..*/\1/p')
+if [ "${minor:-0}" -ge 85 ]; then
+    export CARGO_TARGET_DIR=$work/cargo RUSTFLAGS='-D warnings' RUSTDOCFLAGS='-D warnings'
+    prints rust-crate '' crate_tests
+    prints rust-project 'word 4501D820, done 1, lane 0 is 127' new_project
+else
+    echo 'capi: not run: the Rust crate: its edition, 2024, needs cargo 1.85 or later' >&2
+fi
+
+# ---- what the archive asks for beside what it has
+
 asked=$(nm "$archive" | awk '$1 == "U" { asked[$2] } NF == 3 { has[$3] } END { for (s in asked) if (!(s in has)) print s }')
 if [ "$asked" != memset ]; then
     printf 'capi: the archive asks for\n%s\nand not for memset alone\n' "$asked" >&2

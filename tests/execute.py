@@ -47,7 +47,7 @@ def expect(got, wanted_out, wanted_err):
 
 def says(text, line, what):
     """Bad input: one line on standard error, and nothing else."""
-    expect(run(data=text), b"", b"execute: line %d: %s\n" % (line, what))
+    expect(run(data=text), b"", b"kob run: line %d: %s\n" % (line, what))
 
 
 def prints(text, *lines):
@@ -81,11 +81,11 @@ def documented(text, printed):
 
 
 def says_longer(data):
-    expect(run(data=data), b"", b"execute: the input is longer than 65536 bytes\n")
+    expect(run(data=data), b"", b"kob run: the input is longer than 65536 bytes\n")
 
 
 def expect_unread(**way):
-    expect(run(**way), b"", b"execute: the input could not be read\n")
+    expect(run(**way), b"", b"kob run: the input could not be read\n")
 
 
 def from_folder():
@@ -104,7 +104,7 @@ def from_nothing():
 def to_full_device():
     with open("/dev/full", "wb") as full:
         _, said = run(stdout=full, data=b"length 128\n")
-    if said != b"execute: the output could not be written\n":
+    if said != b"kob run: the output could not be written\n":
         raise Fault(f"it said {said[:120]!r}")
 
 
@@ -159,16 +159,16 @@ def wrong():
     after = {
         b"unknown statement": (b"lengths 1", b"wor 0", b"words 0", b"z0 00", b"Z 0 00", b"128", b"\0", b"\xff"),
         b"a second length": (b"length 128", b"length x"),
-        b"a number is missing": (b"qc", b"z", b"z # 1"),
-        b"not a decimal number": (b"qc x", b"qc -1", b"z a", b"z 1x", b"z 0x1"),
+        b"a number is missing": (b"qc", b"z", b"z # 1", b"show z", b"show z # 1"),
+        b"not a decimal number": (b"qc x", b"qc -1", b"z a", b"z 1x", b"z 0x1", b"show zero"),
         b"qc is 0 or 1": (b"qc 2", b"qc 10", b"qc 18446744073709551616"),
-        b"show takes b, h, s or d": (b"show", b"show q", b"show bb", b"show B"),
+        b"show takes b, h, s, d or a register, z0 to z31": (b"show", b"show q", b"show bb", b"show B", b"show Z3"),
         b"a word is missing": (b"word", b"word 0x", b"word # 0"),
         b"a word of more than 8 digits": (b"word 123456789", b"word 0x000000000"),
         b"a digit that is not hexadecimal": (b"word 12g4", b"word -1", b"word 0y1", b"z 1 0g", b"z 1 g0", b"z 1 00 0x"),
-        b"a register above 31": (b"z 32", b"z 99999999999999999999 00"),
+        b"a register above 31": (b"z 32", b"z 99999999999999999999 00", b"show z32"),
         b"a byte of one digit": (b"z 1 0", b"z 1 00 1 00", b"z 1 001#"),
-        b"more than the statement takes": (b"qc 1 1", b"show b b", b"word 0 0"),
+        b"more than the statement takes": (b"qc 1 1", b"show b b", b"show z1 z2", b"word 0 0"),
     }
     for what, lines in after.items():
         for line in lines:
@@ -208,6 +208,15 @@ def shown():
         yield f"lanes {size}", as_modelled, text
         least = b"length 128\nshow %s\nz 3 %s80\nword %08x\n" % (size, b"00" * (width - 1), word)
         yield f"the least lane {size}", as_modelled, least
+    # Registers asked for: unchanged, changed, at a length that is refused, with lanes that do not fill it.
+    for length in (128, 2048, 0, 8, 24, 192, 384):
+        given = b"length %d\nz 7 %s\n" % (length, b"01FF02"[: length // 4])
+        asked = given + b"show z7\nshow z 0\nshow z31\nshow z7\n"
+        yield f"registers asked for at {length}", as_modelled, asked
+        yield f"the same by lanes at {length}", as_modelled, asked + b"show h\n"
+    yield "a register asked for that changes", as_modelled, two + b"show z1\nshow z0\n"
+    every = b"".join(b"show z%d\nz %d %s\n" % (n, n, b"80" * 512) for n in range(32))
+    yield "the longest report of all", as_modelled, b"length 4096\nshow b\n" + every
     # CADD zN, zN, z31, 90 of -128 in every lane: 0 - -128 and 0 + -128 are -128.
     words = b"".join(b"word %08x\n" % (0x4500DBE0 | n) for n in range(32))
     yield "the longest report", as_modelled, b"length 2048\nshow b\nz 31 %s\n%s" % (b"80" * 256, words)

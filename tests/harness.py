@@ -8,7 +8,7 @@ full speed, and demand 3 against the archive itself; this script asks the archiv
 holds them against the independent model. All cases are seeded, valid and damaged. --words also
 decodes every one of the 2^32 words, which takes a minute or so more.
 
-The archive is target/staticlib/libcapi.a unless told otherwise. The last line is
+The archive is target/staticlib/libkobbeskuim.a unless told otherwise. The last line is
 'harness: N cases, M differences'; the exit status is 0 only if M is 0.
 """
 
@@ -284,7 +284,7 @@ def main():
     parser.add_argument("--seconds", type=float, default=60)
     parser.add_argument("--seed", type=int, default=1)
     parser.add_argument("--words", action="store_true")
-    parser.add_argument("--archive", type=Path, default=ROOT / "target/staticlib/libcapi.a")
+    parser.add_argument("--archive", type=Path, default=ROOT / "target/staticlib/libkobbeskuim.a")
     parser.add_argument("--include", type=Path, default=ROOT / "include")
     given = parser.parse_args()
     if not given.archive.exists():

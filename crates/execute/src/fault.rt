@@ -40,7 +40,7 @@ pub const TOO_MANY_BYTES: Fault = 15;
 
 pub const TOO_MUCH: Fault = 16;
 
-const REASONS: [u8; 389] = *b"unknown statement
+const REASONS: [u8; 412] = *b"unknown statement
 the length must come first
 a second length
 the text ends with no length
@@ -48,7 +48,7 @@ a length above 4096
 a number is missing
 not a decimal number
 qc is 0 or 1
-show takes b, h, s or d
+show takes b, h, s, d or a register, z0 to z31
 a word is missing
 a word of more than 8 digits
 more than 4097 words
@@ -61,7 +61,7 @@ more than the statement takes
 
 // The message, at the start of out; answers its length.
 pub fn put_fault(out: &mut [u8], fault: Fault, line: u64) -> usize {
-    let numbered = put_number(out, 0, b"execute: line ", line);
+    let numbered = put_number(out, 0, b"kob run: line ", line);
     let parted = put_text(out, numbered, b": ");
     put_line(out, parted, &REASONS, fault as usize)
 }

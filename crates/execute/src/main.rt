@@ -32,8 +32,8 @@ const FILE: usize = 16384;
 // One word more than the library takes.
 const WORDS: usize = 4097;
 
-// Room for the longest report: 32 lines of 256 lanes of up to 5 characters, and some lines.
-const OUT: usize = 65536;
+// Room for the longest report: 32 lines of 512 lanes of up to 5 characters, and some lines.
+const OUT: usize = 98304;
 
 // Room for the longest message.
 const MESSAGE: usize = 128;
@@ -60,7 +60,7 @@ fn tell(request: Request, ran: Ran, before: &[u8], after: &[u8], words: &[u32]) 
     let mut out = [0u8; OUT];
     let n = put_report(&mut out, request, ran, before, after, words);
     if !write_start(STDOUT_FILENO, &out, n) {
-        io::write_all(STDERR_FILENO, b"execute: the output could not be written\n");
+        io::write_all(STDERR_FILENO, b"kob run: the output could not be written\n");
     }
 }
 
@@ -88,14 +88,14 @@ fn main() {
     let mut text = [0u8; TEXT];
     let filled = input::fill(&mut text);
     if filled.failed {
-        io::write_all(STDERR_FILENO, b"execute: the input could not be read\n");
+        io::write_all(STDERR_FILENO, b"kob run: the input could not be read\n");
         return;
     }
     let n = filled.length;
     if MOST_TEXT < n {
         io::write_all(
             STDERR_FILENO,
-            b"execute: the input is longer than 65536 bytes\n",
+            b"kob run: the input is longer than 65536 bytes\n",
         );
         return;
     }

@@ -28,13 +28,14 @@ use crate::scan::spells;
 
 const MOST_BITS: usize = 4096;
 
-// What the lines so far ask for: the length, once it is given, the flag, the bytes of a lane (0: print bytes), and the
-// number of words.
+// What the lines so far ask for: the length, once it is given, the flag, the bytes of a lane (0: print bytes), the
+// registers that are printed in any case (bit n for register n), and the number of words.
 pub struct Request {
     pub given: bool,
     pub length: usize,
     pub qc: bool,
     pub lane: usize,
+    pub shown: u32,
     pub words: usize,
 }
 
@@ -122,7 +123,7 @@ fn lane_of(size: u8) -> usize {
     }
 }
 
-fn read_show(s: &[u8], at: usize, mut request: Request) -> Said {
+fn read_size(s: &[u8], at: usize, mut request: Request) -> Said {
     let lane = lane_of(byte_at(s, at));
     if !ends(s, next_word(s, at)) {
         return Said::Wrong(TOO_MUCH);
@@ -132,6 +133,27 @@ fn read_show(s: &[u8], at: usize, mut request: Request) -> Said {
     }
     request.lane = lane;
     Said::Fine(request)
+}
+
+fn read_shown(s: &[u8], at: usize, mut request: Request) -> Said {
+    let register = number_at(s, at, 31, NO_SUCH_REGISTER);
+    match register {
+        Number::Wrong(fault) => Said::Wrong(fault),
+        Number::Value(n, end) => {
+            if !ends(s, end) {
+                return Said::Wrong(TOO_MUCH);
+            }
+            request.shown = request.shown | 1 << (n % 32);
+            Said::Fine(request)
+        }
+    }
+}
+
+fn read_show(s: &[u8], at: usize, request: Request) -> Said {
+    if byte_at(s, at) == b'z' {
+        return read_shown(s, skip_spaces(s, next(s, at)), request);
+    }
+    read_size(s, at, request)
 }
 
 fn read_word(s: &[u8], at: usize, mut request: Request, words: &mut [u32]) -> Said {
@@ -250,6 +272,7 @@ pub fn read_text(text: &[u8], file: &mut [u8], words: &mut [u32]) -> Parsed {
         length: 0,
         qc: false,
         lane: 0,
+        shown: 0,
         words: 0,
     };
     let mut at = 0;

@@ -86,13 +86,25 @@ fn put_contents(out: &mut [u8], at: usize, bytes: &[u8], width: usize) -> usize 
     place
 }
 
-// A line for register n, if it changed.
-fn put_register(out: &mut [u8], at: usize, n: usize, was: &[u8], is: &[u8], lane: usize) -> usize {
-    if same(was, is) {
+// Is register n printed in any case?
+fn is_shown(request: Request, n: usize) -> bool {
+    request.shown >> (n % 32) & 1 == 1
+}
+
+// A line for register n, if it changed or is asked for.
+fn put_register(
+    out: &mut [u8],
+    at: usize,
+    n: usize,
+    was: &[u8],
+    is: &[u8],
+    request: Request,
+) -> usize {
+    if same(was, is) && !is_shown(request, n) {
         return at;
     }
     let named = put_number(out, at, b"z", n as u64);
-    let told = put_contents(out, named, is, lane);
+    let told = put_contents(out, named, is, request.lane);
     put_byte(out, told, b'\n')
 }
 
@@ -108,7 +120,7 @@ fn put_registers(
     for n in 0..32 {
         let was = part(before, n, width);
         let is = part(after, n, width);
-        place = put_register(out, place, n, was, is, request.lane);
+        place = put_register(out, place, n, was, is, request);
     }
     place
 }

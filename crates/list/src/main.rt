@@ -30,7 +30,10 @@ fn list_bytes(done: usize, bytes: &[u8], last: bool, out: &mut [u8]) -> Step {
     };
     let length = part.length;
     if !io::write_all(STDOUT_FILENO, &out[..length]) {
-        io::write_all(STDERR_FILENO, b"list: the output could not be written\n");
+        io::write_all(
+            STDERR_FILENO,
+            b"kob list: the output could not be written\n",
+        );
         return Step::Over;
     }
     if part.ended {
@@ -54,7 +57,7 @@ fn wanted(done: usize, most: usize) -> usize
 fn list_piece(done: usize, buf: &mut [u8], out: &mut [u8]) -> Step {
     let filled = input::fill(buf);
     if filled.failed {
-        io::write_all(STDERR_FILENO, b"list: the input could not be read\n");
+        io::write_all(STDERR_FILENO, b"kob list: the input could not be read\n");
         return Step::Over;
     }
     let n = filled.length;

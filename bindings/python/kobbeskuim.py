@@ -1,0 +1,288 @@
+"""Kobbeskuim from Python: AArch64's saturating complex vector instructions, executed, decoded, written and listed.
+
+One file over the shared library, by ctypes. SQCADD at 128 bits: Z0 = (0, 0), Z1 = (-128, -128), 90 degrees.
+
+>>> file = bytearray(4 * 128)
+>>> register(128, file, 1)[:2] = b"\\x80\\x80"
+>>> word = encode(Operation(Family.SQCADD, Size.B, turns=1, destination=0, second=1))
+>>> run(128, file, [word])
+Ran(done=1, qc=False)
+>>> register(128, file, 0).cast("b")[:2].tolist()
+[127, -128]
+
+What the library refuses is a Refused, which has its number. A number that C cannot take (negative, or of too many
+bits) is a ValueError, and what is no number or no fitting buffer a TypeError. No call keeps state, so threads may
+call at the same time, each with a file of its own. include/kobbeskuim.h says more of each call.
+"""
+
+from __future__ import annotations
+
+import ctypes
+import os
+from array import array
+from enum import IntEnum
+from operator import index as as_int
+from pathlib import Path
+from typing import TYPE_CHECKING, Iterable, NamedTuple, SupportsIndex
+
+if TYPE_CHECKING:
+    from _typeshed import ReadableBuffer, WriteableBuffer
+
+VERSION = "0.2.0"
+
+# ---- limits
+
+LENGTH_MIN = 128  # of the vector length in bits: 128, 256, 512, 1,024 or 2,048
+LENGTH_MAX = 2048
+REGISTERS = 32
+FILE_SIZE_MAX = 8192  # bytes; a register file has 4 x L
+WORDS_MAX = 4096  # of a program
+LIST_WORDS_MAX = 1048576  # of a listing; one more gives its LIMIT line
+
+# ---- numbers answered, and the exceptions that carry them
+
+
+class Number(IntEnum):
+    """What a call answers; `text` says it in words."""
+
+    text: str
+
+    def __new__(cls, value: int, text: str = "") -> Number:  # the default lets type checkers pass Number(4)
+        number = int.__new__(cls, value)
+        number._value_ = value
+        number.text = text
+        return number
+
+    DONE = 0, "done"
+    BAD_LENGTH = 1, "length not a multiple of 128 from 128 to 2,048"
+    BAD_SIZE = 2, "file not 4 x L bytes"
+    TOO_LONG = 3, "more than 4,096 words"
+    OUTSIDE = 4, "word outside the set"
+    RESERVED = 5, "reserved word"
+    NO_REGISTER = 6, "register above 31"
+    NO_SIZE = 7, "size that the family lacks"
+    NO_ROTATION = 8, "rotation that the family lacks"
+    REGISTER_LIMIT = 9, "register field above its limit"
+    INDEX_LIMIT = 10, "index above its limit"
+    NOT_POWER_OF_TWO = 11, "length not a power of two"
+    BAD_FIELDS = 32, "fields not 8 numbers"
+    NO_OPERATION = 33, "fields that name no operation"
+
+
+class Refused(Exception):
+    """The library refused a call, by this number. Nothing is changed, unless it is a Stopped."""
+
+    def __init__(self, number: Number, *more: object) -> None:
+        super().__init__(number, *more)  # all arguments, so that it can be pickled
+        self.number = number
+
+    def __str__(self) -> str:
+        return f"{self.number:d}, {self.number.text}"
+
+
+class Stopped(Refused):
+    """A run ended at `word`, which is outside the set or reserved. The words before it are done: `done` is their count,
+    and so its place from 0; the file is as they left it, and `qc` is the flag that they left."""
+
+    def __init__(self, number: Number, done: int, qc: bool, word: int) -> None:
+        super().__init__(number, done, qc, word)
+        self.done, self.qc, self.word = done, qc, word
+
+    def __str__(self) -> str:
+        return f"{super().__str__()}: at word {self.done}, {self.word:08X}"
+
+
+# ---- operations
+
+
+class Family(IntEnum):
+    """CMLA_I and SQRDCMLAH_I are the indexed ones."""
+
+    CADD, SQCADD, CMLA, CMLA_I, SQRDCMLAH, SQRDCMLAH_I, SQRDMLAH, SQRDMLSH = range(8)
+
+
+class Size(IntEnum):
+    """Of an element: 8, 16, 32 or 64 bits."""
+
+    B, H, S, D = range(4)
+
+
+class Form(IntEnum):
+    """One lane, or 64 or 128 bits of lanes."""
+
+    SCALAR, VECTOR_64, VECTOR_128 = range(3)
+
+
+class Operation(NamedTuple):
+    """An instruction's fields. What its family does not use is 0; of the form, that is SCALAR. `index` is the field,
+    and not tuple's method."""
+
+    family: Family
+    size: Size
+    form: Form = Form.SCALAR  # SQRDMLAH and SQRDMLSH only
+    turns: int = 0  # the rotation in quarter turns; all but SQRDMLAH and SQRDMLSH
+    destination: int = 0  # Zdn, Zda or Rd
+    first: int = 0  # Zn or Rn; CADD and SQCADD have none, for Zdn is their first source
+    second: int = 0  # Zm or Rm
+    index: int = 0  # type: ignore[assignment]  # CMLA-I, SQRDCMLAH-I, SQRDMLAH and SQRDMLSH only
+
+
+class Ran(NamedTuple):
+    """A run that did all its words: their count, and the flag that it left."""
+
+    done: int
+    qc: bool
+
+
+# ---- the shared library
+
+_SIZE, _WORD, _ANSWER = ctypes.c_size_t, ctypes.c_uint32, ctypes.c_uint64
+_BYTES, _WORDS = ctypes.POINTER(ctypes.c_uint8), ctypes.POINTER(ctypes.c_uint32)
+
+# The header's calls: the answer's type, then the arguments'.
+_CALLS = {
+    "kob_run": (_ANSWER, _SIZE, _BYTES, _SIZE, ctypes.c_bool, _WORDS, _SIZE),
+    "kob_register": (_ANSWER, _SIZE, _SIZE, _SIZE),
+    "kob_decode": (_WORD, _WORD, _WORDS, _SIZE),
+    "kob_encode": (_ANSWER, _WORDS, _SIZE),
+    "kob_list": (_ANSWER, _BYTES, _SIZE, _BYTES, _SIZE),
+}
+
+# Of any buffer, an empty one too, from_buffer of these is a pointer to its start.
+_Bytes, _Words = ctypes.c_uint8 * 0, ctypes.c_uint32 * 0
+
+
+def _load() -> ctypes.CDLL:
+    """The file that KOBBESKUIM_LIBRARY names; else that of the tree or the installation that has this module; else
+    the one that the loader finds."""
+    here = Path(__file__).resolve().parent
+    beside = (here / "../../target/sharedlib/libkobbeskuim.so", here / "../../../lib/libkobbeskuim.so.0")
+    name = next((os.path.normpath(file) for file in beside if file.is_file()), "libkobbeskuim.so.0")
+    if os.environ.get("KOBBESKUIM_LIBRARY"):
+        name = os.path.abspath(os.environ["KOBBESKUIM_LIBRARY"])
+    try:
+        library = ctypes.CDLL(name)
+        for call, (answer, *arguments) in _CALLS.items():
+            getattr(library, call).restype = answer
+            getattr(library, call).argtypes = arguments
+    except (OSError, AttributeError) as error:
+        right = "'./kob staticlib' builds it, './kob install PREFIX' installs it, KOBBESKUIM_LIBRARY names its file"
+        raise ImportError(f"kobbeskuim: the shared library cannot be loaded: {error}; {right}") from error
+    return library
+
+
+_library = _load()
+
+
+# ---- what goes to C: ctypes takes the low bits of a number that is too large, and says nothing
+
+
+def _number(what: str, value: SupportsIndex, bits: int) -> int:
+    number = as_int(value)
+    if not 0 <= number < 1 << bits:
+        raise ValueError(f"{what} is {number}, which is not from 0 to 2^{bits} - 1")
+    return number
+
+
+def _numbers(what: str, values: Iterable[SupportsIndex]) -> array[int]:
+    """The numbers as a part of 32-bit ones, which is a copy: it overlaps no other part of the call."""
+    numbers = [as_int(value) for value in values]
+    try:
+        return array("I", numbers)
+    except OverflowError:
+        for place, number in enumerate(numbers):
+            _number(f"{what} {place}", number, 32)
+        raise
+
+
+def _done(number: int) -> None:
+    if number:
+        raise Refused(Number(number))
+
+
+# ---- calls
+
+
+def run(length: SupportsIndex, file: WriteableBuffer, words: Iterable[SupportsIndex], qc: bool = False) -> Ran:
+    """Runs the words in order on the file, which is a bytearray or another writable buffer of 4 x L bytes.
+
+    Refused by 1, 11, 2 or 3, the first that applies; Stopped by 4 or 5.
+
+    >>> run(128, bytearray(512), [0x4501D800, 0x4501D800, 0])
+    Traceback (most recent call last):
+    kobbeskuim.Stopped: 4, word outside the set: at word 2, 00000000
+    """
+    bits, program = _number("length", length, 64), _numbers("word", words)
+    with memoryview(file) as view:  # given back at once, so that whoever catches a refusal may resize the file
+        if view.readonly or not view.c_contiguous:
+            raise TypeError("file is read-only or not contiguous: lend a bytearray or another writable buffer")
+        answer = _library.kob_run(
+            bits, _Bytes.from_buffer(view), view.nbytes, qc, _Words.from_buffer(program), len(program)
+        )
+    number, flag, done = answer & 0xFF, bool(answer >> 8 & 1), answer >> 16
+    if not number:
+        return Ran(done, flag)
+    if number in (Number.OUTSIDE, Number.RESERVED):
+        raise Stopped(Number(number), done, flag, program[done])
+    raise Refused(Number(number))
+
+
+def register(length: SupportsIndex, file: ReadableBuffer, n: SupportsIndex) -> memoryview:
+    """Register n's part of the caller's own file: L/8 bytes, to read and, where the file can be written, to write.
+
+    `cast` makes lanes of it: "b", "h", "i" and "q" for B, H, S and D. A bytearray cannot be resized while a part of
+    it is held. Refused by 1, 11, 2 or 6, the first that applies.
+
+    >>> register(256, bytearray(range(32)) * 32, 31).tobytes() == bytes(range(32))
+    True
+    """
+    with memoryview(file) as view:
+        size = view.nbytes
+    answer = _library.kob_register(_number("length", length, 64), size, _number("register", n, 64))
+    _done(answer & 0xFF)
+    start = answer >> 16 & 0xFFFFFF
+    return memoryview(file).cast("B")[start : start + (answer >> 40)]
+
+
+def decode(word: SupportsIndex) -> Operation:
+    """The operation of a word. Refused by 4 or 5.
+
+    >>> decode(0x44BA7420) == Operation(Family.SQRDCMLAH_I, Size.H, turns=1, destination=0, first=1, second=2, index=3)
+    True
+    >>> decode(0x2F00F000)
+    Traceback (most recent call last):
+    kobbeskuim.Refused: 5, reserved word
+    """
+    fields = array("I", [0] * len(Operation._fields))
+    _done(_library.kob_decode(_number("word", word, 32), _Words.from_buffer(fields), len(fields)))
+    family, size, form, *others = fields
+    return Operation(Family(family), Size(size), Form(form), *others)
+
+
+def encode(operation: Operation) -> int:
+    """The word of an operation. Refused by 32, 33, 7, 8, 9 or 10, the first that applies.
+
+    >>> hex(encode(Operation(Family.SQRDMLSH, Size.H, Form.VECTOR_64, destination=0, first=1, second=2, index=7)))
+    '0x2f72f820'
+    """
+    fields = _numbers("field", operation)
+    answer: int = _library.kob_encode(_Words.from_buffer(fields), len(fields))
+    _done(answer & 0xFFFFFFFF)
+    return answer >> 32
+
+
+def listing(data: ReadableBuffer) -> str:
+    """The lines of all little-endian 4-byte words of the bytes, as `kob list` prints them.
+
+    >>> print(listing(bytes.fromhex("00D80145 00F0002F 00000000 09")), end="")
+    4501D800 SQCADD
+    2F00F000 RESERVED
+    00000000 OUTSIDE
+    TAIL 1
+    TOTAL 3
+    """
+    given = bytearray(memoryview(data))
+    del given[4 * (LIST_WORDS_MAX + 1) :]  # past the word that gives LIMIT nothing is listed
+    out = bytearray(21 * (len(given) // 4) + 32)  # KOB_LIST_ROOM, so there is always room
+    length = _library.kob_list(_Bytes.from_buffer(given), len(given), _Bytes.from_buffer(out), len(out))
+    return out[:length].decode("ascii")

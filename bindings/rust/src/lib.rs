@@ -1,0 +1,296 @@
+//! Kobbeskuim: AArch64's saturating complex vector instructions, as safe calls over the archive.
+//!
+//! Every call of the archive is proved to meet its contract for every input, to stay inside the memory
+//! that it is lent, and to end. A slice hands over its own length, so every argument is good, an empty
+//! slice too. No call keeps state, so threads may call at the same time.
+//!
+//! ```
+//! use kobbeskuim::{Family, Fields, Size, encode, file_size, register_mut, run};
+//!
+//! // SQCADD Z0.B, Z0.B, Z1.B, 90 on (100, 0) and (0, -100): the sum 200 is clamped.
+//! let word = encode(&Fields { family: Family::SQCADD, size: Size::B, turns: 1, second: 1, ..Fields::default() })?;
+//! let mut file = vec![0; file_size(128)];
+//! register_mut(128, &mut file, 0)?[0] = 100;
+//! register_mut(128, &mut file, 1)?[1] = -100i8 as u8;
+//! let ran = run(128, &mut file, false, &[word]);
+//! assert_eq!((ran.ended, ran.done, file[0]), (Ok(()), 1, 127));
+//! # Ok::<(), kobbeskuim::Refused>(())
+//! ```
+
+#![deny(missing_docs)]
+
+use std::fmt;
+use std::ops::Range;
+
+/// The legal vector lengths, in bits.
+pub const LENGTHS: [usize; 5] = [128, 256, 512, 1024, 2048];
+
+/// The registers of a file.
+pub const REGISTERS: usize = 32;
+
+/// The most words of a program.
+pub const WORDS_MAX: usize = 4096;
+
+/// The most words that a listing lists; one more gives its LIMIT line.
+pub const LIST_WORDS_MAX: usize = 1_048_576;
+
+/// The bytes of a register file: registers 0 to 31 in order, L/8 bytes each, little-endian, element 0
+/// first. Register Vn is the first 16 bytes of Zn.
+pub const fn file_size(l: usize) -> usize {
+    4 * l
+}
+
+/// Declares a type of numbers, each with its name, which `Debug` shows, and its text, for `Display`.
+macro_rules! numbers {
+    ($(#[$attribute:meta])* $type:ident { $($name:ident = $number:literal: $text:literal,)* }) => {
+        $(#[$attribute])*
+        #[repr(transparent)]
+        #[derive(Clone, Copy, PartialEq, Eq, Hash)]
+        pub struct $type(
+            /// The library's number.
+            pub u32,
+        );
+
+        impl $type {
+            $(
+                #[doc = $text]
+                pub const $name: Self = Self($number);
+            )*
+
+            /// All that have a name.
+            pub const ALL: &[Self] = &[$(Self::$name),*];
+        }
+
+        impl fmt::Debug for $type {
+            fn fmt(&self, f: &mut fmt::Formatter) -> fmt::Result {
+                match self.0 {
+                    $($number => f.write_str(stringify!($name)),)*
+                    other => write!(f, "{other}"),
+                }
+            }
+        }
+
+        impl fmt::Display for $type {
+            fn fmt(&self, f: &mut fmt::Formatter) -> fmt::Result {
+                f.pad(match self.0 {
+                    $($number => $text,)*
+                    _ => "no number of this library",
+                })
+            }
+        }
+    };
+}
+
+numbers! {
+    /// Why a call refuses. `BAD_FIELDS` is for C alone: [`Fields`] has its eight numbers.
+    Refused {
+        BAD_LENGTH = 1: "length not a multiple of 128 from 128 to 2,048",
+        BAD_SIZE = 2: "file not 4 x L bytes",
+        TOO_LONG = 3: "more than 4,096 words",
+        OUTSIDE = 4: "word outside the set",
+        RESERVED = 5: "reserved word",
+        NO_REGISTER = 6: "register above 31",
+        NO_SIZE = 7: "size that the family lacks",
+        NO_ROTATION = 8: "rotation that the family lacks",
+        REGISTER_LIMIT = 9: "register field above its limit",
+        INDEX_LIMIT = 10: "index above its limit",
+        NOT_POWER_OF_TWO = 11: "length not a power of two",
+        BAD_FIELDS = 32: "fields not 8 numbers",
+        NO_OPERATION = 33: "fields that name no operation",
+    }
+}
+
+impl std::error::Error for Refused {}
+
+numbers! {
+    /// A family of instructions; the text is the name in a listing.
+    #[derive(Default)]
+    Family {
+        CADD = 0: "CADD",
+        SQCADD = 1: "SQCADD",
+        CMLA = 2: "CMLA",
+        CMLA_I = 3: "CMLA-I",
+        SQRDCMLAH = 4: "SQRDCMLAH",
+        SQRDCMLAH_I = 5: "SQRDCMLAH-I",
+        SQRDMLAH = 6: "SQRDMLAH",
+        SQRDMLSH = 7: "SQRDMLSH",
+    }
+}
+
+numbers! {
+    /// The size of an element.
+    #[derive(Default)]
+    Size {
+        B = 0: "8 bits",
+        H = 1: "16 bits",
+        S = 2: "32 bits",
+        D = 3: "64 bits",
+    }
+}
+
+numbers! {
+    /// The lanes of SQRDMLAH and SQRDMLSH.
+    #[derive(Default)]
+    Form {
+        SCALAR = 0: "one lane",
+        VECTOR_64 = 1: "64 bits of lanes",
+        VECTOR_128 = 2: "128 bits of lanes",
+    }
+}
+
+/// An operation: eight numbers. What its family does not use is 0.
+#[repr(C)] // eight `u32` in a row, as the archive has them
+#[derive(Clone, Copy, Debug, Default, PartialEq, Eq, Hash)]
+pub struct Fields {
+    /// The family.
+    pub family: Family,
+    /// The size of an element.
+    pub size: Size,
+    /// SQRDMLAH and SQRDMLSH only.
+    pub form: Form,
+    /// The rotation in quarter turns, 0 to 3; all but SQRDMLAH and SQRDMLSH.
+    pub turns: u32,
+    /// Zdn, Zda or Rd.
+    pub destination: u32,
+    /// Zn or Rn; CADD and SQCADD have none, for Zdn is their first source.
+    pub first: u32,
+    /// Zm or Rm.
+    pub second: u32,
+    /// CMLA-I, SQRDCMLAH-I, SQRDMLAH and SQRDMLSH only.
+    pub index: u32,
+}
+
+const FIELDS: usize = size_of::<Fields>() / size_of::<u32>();
+
+// include/kobbeskuim.h says what each call does.
+#[link(name = "kobbeskuim", kind = "static")]
+unsafe extern "C" {
+    fn kob_run(l: usize, file: *mut u8, file_length: usize, qc: bool, words: *const u32, word_count: usize) -> u64;
+    safe fn kob_register(l: usize, size: usize, n: usize) -> u64;
+    fn kob_decode(word: u32, fields: *mut Fields, length: usize) -> u32;
+    fn kob_encode(fields: *const Fields, length: usize) -> u64;
+    fn kob_list(bytes: *const u8, length: usize, out: *mut u8, room: usize) -> u64;
+}
+
+fn answered<T>(number: u32, value: T) -> Result<T, Refused> {
+    if number == 0 { Ok(value) } else { Err(Refused(number)) }
+}
+
+/// What a run answers.
+#[must_use = "a run can be refused, or end before its last word"]
+#[derive(Clone, Copy, Debug, PartialEq, Eq)]
+pub struct Ran {
+    /// Whether all words were done, or why not. `BAD_LENGTH`, `NOT_POWER_OF_TWO`, `BAD_SIZE`, `TOO_LONG`, the
+    /// first that applies: nothing is changed. `OUTSIDE`, `RESERVED`: the file and the flag are as after the
+    /// words before that word.
+    pub ended: Result<(), Refused>,
+    /// The words done.
+    pub done: usize,
+    /// The saturation flag QC that the run leaves.
+    pub qc: bool,
+}
+
+/// Runs a program of up to [`WORDS_MAX`] words on a file of [`file_size`] bytes, with the flag QC.
+/// SQRDMLAH and SQRDMLSH write Vn, and that makes the rest of Zn zero.
+///
+/// ```
+/// use kobbeskuim::{Ran, Refused, run};
+///
+/// let mut file = [0; 512];
+/// assert_eq!(run(128, &mut file, true, &[]), Ran { ended: Ok(()), done: 0, qc: true });
+/// // The second word is outside the set.
+/// let ran = run(128, &mut file, false, &[0x4500_D800, 0]);
+/// assert_eq!(ran, Ran { ended: Err(Refused::OUTSIDE), done: 1, qc: false });
+/// ```
+pub fn run(l: usize, file: &mut [u8], qc: bool, words: &[u32]) -> Ran {
+    // Safety: both parts are slices, and a `&mut` one overlaps no other.
+    let r = unsafe { kob_run(l, file.as_mut_ptr(), file.len(), qc, words.as_ptr(), words.len()) };
+    Ran { ended: answered((r & 0xFF) as u32, ()), done: ((r >> 16) & 0xFFFF) as usize, qc: (r >> 8) & 1 == 1 }
+}
+
+fn place(l: usize, size: usize, n: usize) -> Result<Range<usize>, Refused> {
+    let r = kob_register(l, size, n);
+    let start = ((r >> 16) & 0xFF_FFFF) as usize;
+    answered((r & 0xFF) as u32, start..start + (r >> 40) as usize)
+}
+
+/// The bytes of register n in a file, to be read. The first of `BAD_LENGTH`, `NOT_POWER_OF_TWO`, `BAD_SIZE`
+/// and `NO_REGISTER` that applies refuses.
+///
+/// ```
+/// use kobbeskuim::{Refused, register};
+///
+/// assert_eq!(register(128, &[7; 512], 31), Ok(&[7; 16][..]));
+/// assert_eq!(register(128, &[7; 512], 32).unwrap_err().to_string(), "register above 31");
+/// ```
+pub fn register(l: usize, file: &[u8], n: usize) -> Result<&[u8], Refused> {
+    Ok(&file[place(l, file.len(), n)?])
+}
+
+/// The bytes of register n in a file, to be changed; else as [`register`].
+pub fn register_mut(l: usize, file: &mut [u8], n: usize) -> Result<&mut [u8], Refused> {
+    let place = place(l, file.len(), n)?;
+    Ok(&mut file[place])
+}
+
+/// The fields of a word; `OUTSIDE` or `RESERVED` refuses.
+///
+/// ```
+/// use kobbeskuim::{Family, Refused, Size, decode};
+///
+/// let fields = decode(0x4541_DCA3)?;
+/// assert_eq!((fields.family, fields.size, fields.turns), (Family::SQCADD, Size::H, 3));
+/// assert_eq!((fields.destination, fields.second), (3, 5));
+/// assert_eq!(decode(0x2F00_F000), Err(Refused::RESERVED));
+/// # Ok::<(), Refused>(())
+/// ```
+pub fn decode(word: u32) -> Result<Fields, Refused> {
+    let mut fields = Fields::default();
+    // Safety: the part is our own.
+    let number = unsafe { kob_decode(word, &raw mut fields, FIELDS) };
+    answered(number, fields)
+}
+
+/// The word of the operation that the fields name.
+///
+/// `NO_OPERATION` refuses a family, size, form or turns that there are not, and a field that the family does
+/// not use and that is not 0; then the first of `NO_SIZE`, `NO_ROTATION`, `REGISTER_LIMIT` and `INDEX_LIMIT`
+/// that applies. The fields of [`decode`] give the word that was decoded.
+///
+/// ```
+/// use kobbeskuim::{Family, Fields, Form, Refused, Size, encode};
+///
+/// let mut fields = Fields {
+///     family: Family::SQRDMLSH,
+///     size: Size::H,
+///     form: Form::VECTOR_64,
+///     turns: 0,
+///     destination: 0,
+///     first: 1,
+///     second: 2,
+///     index: 7,
+/// };
+/// assert_eq!(encode(&fields), Ok(0x2F72_F820));
+/// fields.index = 8;
+/// assert_eq!(encode(&fields), Err(Refused::INDEX_LIMIT));
+/// ```
+pub fn encode(fields: &Fields) -> Result<u32, Refused> {
+    // Safety: the part is a reference's.
+    let r = unsafe { kob_encode(fields, FIELDS) };
+    answered(r as u32, (r >> 32) as u32)
+}
+
+/// The listing of all little-endian 4-byte words of a buffer.
+///
+/// ```
+/// let words = [0x4501_D800u32, 0x2F00_F000, 0].map(u32::to_le_bytes);
+/// let text = "4501D800 SQCADD\n2F00F000 RESERVED\n00000000 OUTSIDE\nTOTAL 3\n";
+/// assert_eq!(kobbeskuim::list(words.as_flattened()), text);
+/// ```
+pub fn list(bytes: &[u8]) -> String {
+    let mut out = vec![0; 21 * (bytes.len() / 4) + 32];
+    // Safety: both parts are slices, and `out` is new.
+    let length = unsafe { kob_list(bytes.as_ptr(), bytes.len(), out.as_mut_ptr(), out.len()) };
+    out.truncate(length as usize);
+    String::from_utf8(out).expect("a listing is ASCII")
+}

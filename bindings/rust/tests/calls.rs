@@ -1,0 +1,186 @@
+//! Every call on either side of its limits, and the crate's numbers and texts beside the header's.
+
+use kobbeskuim::*;
+use std::path::Path;
+
+fn ran(ended: Result<(), Refused>, done: usize, qc: bool) -> Ran {
+    Ran { ended, done, qc }
+}
+
+fn fields([family, size, form, turns, destination, first, second, index]: [u32; 8]) -> Fields {
+    let (family, size, form) = (Family(family), Size(size), Form(form));
+    Fields { family, size, form, turns, destination, first, second, index }
+}
+
+#[test]
+fn edges_of_a_run() {
+    let mut file = vec![7; 8192];
+    for (l, size) in [(0, 0), (127, 508), (192, 768), (2176, 8192)] {
+        assert_eq!(run(l, &mut file[..size], true, &[]), ran(Err(Refused::BAD_LENGTH), 0, true));
+    }
+    // 384 is no power of two, and that comes before a wrong size and a program too long.
+    for (size, words) in [(1536, 1), (512, 1), (1536, 4097)] {
+        let refused = Err(Refused::NOT_POWER_OF_TWO);
+        assert_eq!(run(384, &mut file[..size], true, &vec![0; words]), ran(refused, 0, true));
+    }
+    for size in [0, 511, 513] {
+        assert_eq!(run(128, &mut file[..size], false, &[0]), ran(Err(Refused::BAD_SIZE), 0, false));
+    }
+    assert_eq!(run(128, &mut file[..512], false, &[0; 4097]), ran(Err(Refused::TOO_LONG), 0, false));
+    assert!(file.iter().all(|&b| b == 7));
+    for l in LENGTHS {
+        assert_eq!(run(l, &mut file[..file_size(l)], true, &[]), ran(Ok(()), 0, true));
+    }
+    assert_eq!(run(128, &mut file[..512], false, &[0x4500_D800; 4096]), ran(Ok(()), 4096, false));
+    let outside = [0x4500_D800, 0];
+    assert_eq!(run(128, &mut file[..512], true, &outside), ran(Err(Refused::OUTSIDE), 1, true));
+    assert_eq!(run(128, &mut file[..512], false, &[0x2F00_F000]), ran(Err(Refused::RESERVED), 0, false));
+}
+
+#[test]
+fn lanes() -> Result<(), Refused> {
+    // SQCADD Z0.B, Z0.B, Z1.B, 90: (0, 0) and (-128, -128) give (127, -128); CADD gives (-128, -128).
+    for (word, real) in [(0x4501_D820, 127), (0x4500_D820, 0x80)] {
+        let mut file = vec![0; 512];
+        register_mut(128, &mut file, 1)?.fill(0x80);
+        assert_eq!(run(128, &mut file, false, &[word]), ran(Ok(()), 1, false));
+        assert_eq!(file[..2], [real, 0x80]);
+    }
+    // SQRDMLAH H0, H1, V2.H[0]: -32768 x -32768 on 0 clamps and sets QC; the rest of Z0 becomes 0.
+    let mut file = vec![0; 1024];
+    register_mut(256, &mut file, 0)?[2..].fill(0xFF);
+    register_mut(256, &mut file, 1)?[1] = 0x80;
+    register_mut(256, &mut file, 2)?[1] = 0x80;
+    let word = encode(&fields([6, 1, 0, 0, 0, 1, 2, 0]))?;
+    assert_eq!(run(256, &mut file, false, &[word]), ran(Ok(()), 1, true));
+    assert_eq!(file[..2], [0xFF, 0x7F]);
+    assert!(file[2..32].iter().all(|&b| b == 0));
+    Ok(())
+}
+
+#[test]
+fn registers() {
+    let mut file: Vec<u8> = (0..1024).map(|at| (at / 32) as u8).collect();
+    for n in 0..REGISTERS {
+        let mut held = [n as u8; 32];
+        assert_eq!(register(256, &file, n), Ok(&held[..]));
+        assert_eq!(register_mut(256, &mut file, n), Ok(&mut held[..]));
+    }
+    let refusals = [
+        (256, 32, Refused::NO_REGISTER),
+        (128, 0, Refused::BAD_SIZE),
+        (100, 32, Refused::BAD_LENGTH),
+        (384, 40, Refused::NOT_POWER_OF_TWO),
+    ];
+    for (l, n, refused) in refusals {
+        assert_eq!(register(l, &file, n), Err(refused));
+        assert_eq!(register_mut(l, &mut file, n), Err(refused));
+    }
+    assert_eq!(register(128, &[], 0), Err(Refused::BAD_SIZE));
+}
+
+#[test]
+fn words_decoded() {
+    assert_eq!(decode(0x4541_DCA3), Ok(fields([1, 1, 0, 3, 3, 0, 5, 0])));
+    assert_eq!(decode(0x44BA_7420), Ok(fields([5, 1, 0, 1, 0, 1, 2, 3])));
+    assert_eq!(decode(0x44C2_3820), Ok(fields([4, 3, 0, 2, 0, 1, 2, 0])));
+    assert_eq!(decode(0x2F72_F820), Ok(fields([7, 1, 1, 0, 0, 1, 2, 7])));
+    assert_eq!(decode(0x2F00_F000), Err(Refused::RESERVED));
+    assert_eq!(decode(0x2F00_F400), Err(Refused::OUTSIDE));
+}
+
+#[test]
+fn operations_refused() {
+    let refusals = [
+        ([5, 0, 0, 0, 0, 0, 0, 0], Refused::NO_SIZE),
+        ([0, 0, 0, 2, 0, 0, 0, 0], Refused::NO_ROTATION),
+        ([3, 1, 0, 0, 0, 0, 8, 0], Refused::REGISTER_LIMIT),
+        ([6, 2, 0, 0, 0, 0, 0, 4], Refused::INDEX_LIMIT),
+        // fields past what there is
+        ([8, 1, 0, 0, 0, 0, 0, 0], Refused::NO_OPERATION),
+        ([3, 4, 0, 0, 0, 0, 0, 0], Refused::NO_OPERATION),
+        ([3, 1, 3, 0, 0, 0, 0, 0], Refused::NO_OPERATION),
+        ([3, 1, 0, 4, 0, 0, 0, 0], Refused::NO_OPERATION),
+        ([3, 1, 0, 0, 1 << 31, 0, 0, 0], Refused::REGISTER_LIMIT),
+        ([3, 1, 0, 0, 0, 1 << 31, 0, 0], Refused::REGISTER_LIMIT),
+        ([3, 1, 0, 0, 0, 0, 1 << 31, 0], Refused::REGISTER_LIMIT),
+        ([3, 1, 0, 0, 0, 0, 0, 1 << 31], Refused::INDEX_LIMIT),
+        // fields that the family does not use
+        ([0, 0, 1, 1, 0, 0, 0, 0], Refused::NO_OPERATION),
+        ([0, 0, 0, 1, 0, 1, 0, 0], Refused::NO_OPERATION),
+        ([2, 0, 0, 0, 0, 0, 0, 1], Refused::NO_OPERATION),
+        ([6, 1, 0, 1, 0, 0, 0, 0], Refused::NO_OPERATION),
+    ];
+    for (numbers, refused) in refusals {
+        assert_eq!(encode(&fields(numbers)), Err(refused), "{numbers:?}");
+    }
+}
+
+/// Every upper half of the bases' words, with lower halves from a plain sequence.
+#[test]
+fn fields_of_a_word_give_that_word() {
+    let (mut low, mut operations) = (1u32, 0);
+    for high in [0x2F00, 0x4400, 0x4500, 0x6F00, 0x7F00].into_iter().flat_map(|top| top..top + 0x100) {
+        for _ in 0..0x400 {
+            low = low.wrapping_mul(69069).wrapping_add(1);
+            let word = high << 16 | low >> 16;
+            if let Ok(fields) = decode(word) {
+                assert_eq!(encode(&fields), Ok(word));
+                operations += 1;
+            }
+        }
+    }
+    assert!(operations > 10_000, "only {operations} operations were tried");
+}
+
+#[test]
+fn listing() {
+    let bytes = [0x00, 0xD8, 0x01, 0x45, 0x00, 0xF0, 0x00, 0x2F, 0, 0, 0, 0, 9];
+    assert_eq!(list(&bytes), "4501D800 SQCADD\n2F00F000 RESERVED\n00000000 OUTSIDE\nTAIL 1\nTOTAL 3\n");
+    assert_eq!(list(&[]), "TOTAL 0\n");
+    let limit = list(&vec![0; 4 * (LIST_WORDS_MAX + 1)]);
+    assert_eq!(limit.lines().count(), LIST_WORDS_MAX + 1);
+    assert!(limit.ends_with("00000000 OUTSIDE\nLIMIT\n"));
+}
+
+/// The header: in the tree, or in the prefix that the crate is installed into.
+fn header() -> String {
+    let read =
+        |folder| std::fs::read_to_string(Path::new(env!("CARGO_MANIFEST_DIR")).join(folder).join("kobbeskuim.h"));
+    let found = read("../../include").or_else(|_| read("../../../include"));
+    found.expect("kobbeskuim.h is to be in ../../include or ../../../include of the crate")
+}
+
+#[test]
+fn as_in_the_header() {
+    let header = header();
+    let defined = |name: String| {
+        let line = header.lines().find_map(|line| line.strip_prefix(&format!("#define KOB_{name} ")));
+        line.and_then(|rest| rest.split(' ').next()).unwrap_or_else(|| panic!("the header has no KOB_{name}"))
+    };
+    let limits = [
+        ("LENGTH_MIN", LENGTHS[0]),
+        ("LENGTH_MAX", LENGTHS[4]),
+        ("REGISTERS", REGISTERS),
+        ("FILE_SIZE_MAX", file_size(LENGTHS[4])),
+        ("WORDS_MAX", WORDS_MAX),
+        ("LIST_WORDS_MAX", LIST_WORDS_MAX),
+        ("FIELDS", size_of::<Fields>() / 4),
+    ];
+    let numbers = (limits.iter().map(|(name, limit)| (name.to_string(), *limit as u32)))
+        .chain(Family::ALL.iter().map(|family| (format!("{family:?}"), family.0)))
+        .chain(Size::ALL.iter().map(|size| (format!("SIZE_{size:?}"), size.0)))
+        .chain(Form::ALL.iter().map(|form| (format!("{form:?}"), form.0)))
+        .chain(Refused::ALL.iter().map(|refused| (format!("{refused:?}"), refused.0)));
+    for (name, number) in numbers {
+        assert_eq!(defined(name.clone()), number.to_string(), "KOB_{name}");
+    }
+    for refused in Refused::ALL {
+        let text = format!("case KOB_{refused:?}: return \"{refused}\";");
+        assert!(header.contains(&text), "the header has no {text}");
+    }
+    assert_eq!(header.matches("case KOB_").count(), Refused::ALL.len() + 1, "the header's texts, done among them");
+    assert_eq!(defined("VERSION".into()), format!("\"{}\"", env!("CARGO_PKG_VERSION")));
+    let parts = ["MAJOR", "MINOR", "PATCH"].map(|part| defined(format!("VERSION_{part}")));
+    assert_eq!(parts.join("."), env!("CARGO_PKG_VERSION"));
+}

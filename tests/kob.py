@@ -1,0 +1,387 @@
+#!/usr/bin/env python3
+"""Scenario tests of the command kob: statuses, building, links, installing.
+
+    python3 tests/kob.py
+
+It tries a copy of the checkout, in a folder with a space in its name, with a stand-in for rt that is as slow as told and hands
+out what the gate has built (target/bin, target/staticlib); and, with the kit's rt, the tar that 'kob dist' makes.
+"""
+
+import os
+import re
+import shutil
+import signal
+import stat
+import subprocess
+import sys
+import tarfile
+import tempfile
+import time
+from pathlib import Path
+
+ROOT = Path(__file__).resolve().parent.parent
+BUILT = ROOT / "target"
+PATIENCE = 60  # seconds in which a command must end by itself
+BUILDING = 900  # seconds in which the kit must have built what the gate has not
+NOBODY = 65534
+
+WORDS = bytes.fromhex("00D8014500F0002F00000000")
+LISTING = b"4501D800 SQCADD\n2F00F000 RESERVED\n00000000 OUTSIDE\nTOTAL 3\n"
+FIRST = b"number 0, done 1, lane 0 is 127\n"
+UNREAD = b"kob list: the input could not be read\n"
+
+# As rt does, it works in the background, where an interrupt of the keyboard does not reach.
+RT = """#!/bin/sh
+echo "$*" >>"$RT_LOG"
+case $1 in
+check) file=bin/$2 ;;
+staticlib) file=staticlib/lib$2.a ;;
+version) echo 'a stand-in' && exit ;;
+esac
+sleep "${RT_SECONDS-0}" &
+echo $! >"$RT_LOG.sleeper"
+wait $!
+[ -z "${RT_FAILS-}" ] || exit 1
+mkdir -p target/bin target/staticlib target/log && cp "$RT_BUILT/$file" "target/$file" && echo 'logic=proved functions=7 ' >"target/log/$2.say"
+"""
+
+
+class Fault(Exception):
+    """What a scenario found to be wrong."""
+
+
+def check(holds, *what):
+    if not holds:
+        raise Fault(" ".join(str(part) for part in what))
+
+
+class Tree:
+    """A copy of the checkout with nothing built, and a stand-in for rt on its PATH."""
+
+    def __init__(self, work):
+        self.work = work
+        self.root = work / "a tree"
+        self.log = work / "log"
+        self.kob = self.root / "kob"
+        self.elsewhere = work / "elsewhere"
+        self.elsewhere.mkdir()
+        (work / "bin").mkdir()
+        (work / "bin/rt").write_text(RT)
+        (work / "bin/rt").chmod(0o755)
+        listed = subprocess.run(["git", "ls-files", "-co", "--exclude-standard"], cwd=ROOT, stdout=subprocess.PIPE, check=True)
+        for name in listed.stdout.decode().splitlines():
+            if (ROOT / name).exists() and not re.search(r"^crates/.*/(proofs|must-fail)/", name):
+                (self.root / name).parent.mkdir(parents=True, exist_ok=True)
+                shutil.copy(ROOT / name, self.root / name)
+        for path in (work, *work.rglob("*")):  # for nobody to read
+            path.chmod(path.stat().st_mode | (0o755 if path.is_dir() else 0o644))
+
+    def environment(self, more):
+        path = f"{self.work / 'bin'}:{os.environ['PATH']}"
+        return {**os.environ, "PATH": path, "RT_LOG": str(self.log), "RT_BUILT": str(BUILT), **more}
+
+    def start(self, *words, kob=None, stdin=subprocess.DEVNULL, stdout=subprocess.PIPE, rt={}, **more):
+        return subprocess.Popen(
+            [kob or self.kob, *words], stdin=stdin, stdout=stdout, stderr=subprocess.PIPE, cwd=self.elsewhere,
+            env=self.environment(rt), start_new_session=True, **more
+        )  # fmt: skip
+
+    def run(self, *words, data=None, **more):
+        """The status, and what was written to the two outputs."""
+        process = self.start(*words, **({"stdin": subprocess.PIPE} if data is not None else {}), **more)
+        wrote, said = process.communicate(data, timeout=PATIENCE)
+        return process.returncode, wrote, said
+
+    def calls(self):
+        """What rt was called with since this was last asked."""
+        calls = self.log.read_text().splitlines() if self.log.exists() else []
+        self.log.unlink(missing_ok=True)
+        return [call for call in calls if call != "version"]
+
+    def lists(self, **more):
+        status, wrote, said = self.run("list", data=WORDS, **more)
+        check((status, wrote) == (0, LISTING), "it listed", wrote, "with status", status, said)
+        return said
+
+    def fresh(self):
+        shutil.rmtree(self.root / "target", ignore_errors=True)
+        self.calls()
+
+
+def expect(got, status, wrote, said):
+    check(got == (status, wrote, said), "it ended with", got)
+
+
+# ---- statuses
+
+
+def status_of_a_listing(tree):
+    tree.lists()
+    expect(tree.run("list", data=WORDS), 0, LISTING, b"")
+    folder = os.open(tree.elsewhere, os.O_RDONLY)
+    expect(tree.run("list", stdin=folder), 1, b"", UNREAD)
+    os.close(folder)
+    with open("/dev/full", "wb") as full:
+        expect(tree.run("list", data=WORDS, stdout=full), 1, None, b"kob list: the output could not be written\n")
+    for descriptor, what in ((0, b"kob: the input is not open\n"), (1, b"kob: the output is not open\n")):
+        got = tree.run("list", preexec_fn=lambda: os.close(descriptor))
+        expect(got, 1, b"", what)
+
+
+def status_of_a_closed_pipe(tree):
+    tree.lists()
+    reading, writing = os.pipe()
+    os.close(reading)
+    process = tree.start("list", stdin=subprocess.PIPE, stdout=writing)
+    os.close(writing)
+    said = process.communicate(WORDS, timeout=PATIENCE)[1]
+    check(process.returncode == 128 + signal.SIGPIPE and said == b"", process.returncode, said)
+
+
+def status_of_a_run(tree):
+    texts = {
+        b"length 128\n": (0, b"answer 0 done\nwords done 0\nqc 0\n", b""),
+        b"length 384\n": (0, b"answer 11 length not a power of two\nwords done 0\nqc 0\n", b""),
+        b"length 128\nword 7\n": (0, b"answer 4 word outside the set\nwords done 0\nqc 0\nat word 0 00000007\n", b""),
+        b"length 128\nword\n": (1, b"", b"kob run: line 2: a word is missing\n"),
+    }
+    tree.run("run", data=b"length 128")
+    for text, wanted in texts.items():
+        expect(tree.run("run", data=text), *wanted)
+
+
+def status_of_usage(tree):
+    for words in ((), ("lists",), ("list", "words.bin"), ("run", "a", "b"), ("install",), ("",)):
+        status, wrote, said = tree.run(*words)
+        check((status, wrote) == (2, b"") and b"kob help" in said, words, status, wrote, said)
+    for word in ("help", "--help", "-h"):
+        status, wrote, said = tree.run(word)
+        check((status, said) == (0, b"") and wrote.startswith(b"usage: kob list"), word, status, said)
+    check(not tree.calls(), "it called rt")
+
+
+def statuses_by_make(tree):
+    tree.lists()
+    rules = f".DELETE_ON_ERROR:\n%.txt: %.bin\n\t'{tree.kob}' list < $< > $@\n"
+    (tree.elsewhere / "Makefile").write_text(rules)
+    (tree.elsewhere / "good.bin").write_bytes(WORDS)
+    (tree.elsewhere / "bad.bin").mkdir()
+    for name, status in (("good", 0), ("bad", 2)):
+        made = subprocess.run(["make", f"{name}.txt"], cwd=tree.elsewhere, stdout=subprocess.PIPE, stderr=subprocess.PIPE)
+        check(made.returncode == status, "make", name, "ended with", made.returncode, made.stderr)
+        check((tree.elsewhere / f"{name}.txt").exists() == (status == 0), "the target of", name)
+
+
+def starts_in_5_ms(tree):
+    tree.lists()
+    least = PATIENCE
+    for _ in range(30):
+        began = time.perf_counter()
+        tree.lists()
+        least = min(least, time.perf_counter() - began)
+    check(least < 0.005, f"the fastest of 30 took {least * 1000:.1f} ms")
+
+
+# ---- building
+
+
+def builds_once(tree):
+    check(b"proving and building" in tree.lists(), "the first listing does not say that it builds")
+    check(tree.calls() == ["check list"], "the first listing did not build")
+    tree.lists()
+    check(not tree.calls(), "the second listing built again")
+    archive = tree.root / "target/staticlib/libkobbeskuim.a"
+    for built in (["staticlib capi", "staticlib capi_run"], []):
+        status, wrote, said = tree.run("staticlib")
+        check((status, wrote) == (0, b"%s\n" % bytes(archive)), status, wrote, said)
+        check(tree.calls() == built, "staticlib called rt otherwise than", built)
+    later = time.time() + 2
+    os.utime(tree.root / "crates/codec/src/lib.rt", (later, later))
+    tree.run("staticlib")
+    check(tree.calls() == ["staticlib capi", "staticlib capi_run"], "a change of the code did not build again")
+
+
+def fails_to_build(tree):
+    expected = b"kob: rt check list failed, so the program is not run\n"
+    status, wrote, said = tree.run("list", data=WORDS, rt={"RT_FAILS": "1"})
+    check((status, wrote) == (1, b"") and said.endswith(expected), status, wrote, said)
+    tree.lists()
+    tree.fresh()
+    bare = tree.work / "bare"
+    bare.mkdir()
+    for tool in ("sh", "flock"):
+        (bare / tool).symlink_to(shutil.which(tool))
+    expect(tree.run("list", rt={"PATH": str(bare)}), 1, b"", b"kob: cannot build: there is no rt on the PATH\n")
+
+
+def two_at_once(tree):
+    both = [tree.start("list", stdin=subprocess.PIPE, rt={"RT_SECONDS": "1"}) for _ in range(2)]
+    ended = [process.communicate(WORDS, timeout=PATIENCE) for process in both]
+    check([process.returncode for process in both] == [0, 0], "statuses", [process.returncode for process in both])
+    check([wrote for wrote, _ in ended] == [LISTING, LISTING], "the listings", ended)
+    check(sum(b"waiting for it" in said for _, said in ended) == 1, "who waits has to say so", ended)
+    check(tree.calls() == ["check list"], "both built")
+
+
+def alive(number):
+    try:
+        return "\nState:\tZ" not in Path(f"/proc/{number}/status").read_text()
+    except FileNotFoundError:
+        return False
+
+
+def interrupted(tree):
+    sleeper = Path(f"{tree.log}.sleeper")
+    for hit, number in ((os.killpg, signal.SIGINT), (os.kill, signal.SIGINT), (os.kill, signal.SIGTERM), (os.kill, signal.SIGHUP)):
+        tree.fresh()
+        sleeper.unlink(missing_ok=True)
+        process = tree.start("list", rt={"RT_SECONDS": "600"})
+        while not sleeper.exists() or not sleeper.read_text():
+            check(process.poll() is None, "it ended at once")
+            time.sleep(0.01)
+        hit(process.pid, number)
+        _, said = process.communicate(timeout=PATIENCE)
+        check(process.returncode == -number, "it ended with", process.returncode, said)
+        check(not alive(int(sleeper.read_text())), "a child goes on after", number)
+        check(b"waiting" not in tree.lists(), "a retry has to wait")
+
+
+def read_only_tree(tree):
+    def as_nobody():
+        if os.getuid() == 0:
+            os.setgroups([])
+            os.setgid(NOBODY)
+            os.setuid(NOBODY)
+
+    tree.root.chmod(0o555)
+    status, wrote, said = tree.run("list", data=WORDS, preexec_fn=as_nobody)
+    wanted = b"kob: cannot make %s/target\n" % bytes(tree.root)
+    check((status, wrote) == (1, b"") and said.endswith(wanted), status, wrote, said)
+    tree.root.chmod(0o755)
+    tree.lists()
+    tree.root.chmod(0o555)
+    check(tree.lists(preexec_fn=as_nobody) == b"", "it said something")
+    tree.root.chmod(0o755)
+
+
+# ---- the pages, links, installing
+
+
+def shown(page):
+    """The commands of a page, with what it says they print."""
+    for block in re.findall(r"^```\n(\$ .*?)^```$", page.read_text(), re.M | re.S):
+        for part in block.split("$ ")[1:]:
+            line, _, printed = part.partition("\n")
+            yield line, printed.encode()
+
+
+def pages(tree):
+    tree.run("staticlib")
+    tree.run("list")
+    tree.run("run", data=b"length 128")
+    examples = [example for name in ("README.md", "docs/list.md") for example in shown(tree.root / name)]
+    check(len(examples) > 5, "there are only", examples)
+    for line, printed in examples:
+        wrote = command("sh", "-c", line, cwd=tree.root)
+        check(wrote == printed, line, "printed", wrote)
+
+
+def links(tree):
+    (tree.elsewhere / "one").symlink_to("../a tree/kob")
+    (tree.elsewhere / "two").symlink_to(tree.elsewhere / "one")
+    for name in ("one", "two"):
+        tree.lists(kob=tree.elsewhere / name)
+    shutil.copy(tree.kob, tree.elsewhere / "copy")
+    status, wrote, said = tree.run("list", kob=tree.elsewhere / "copy")
+    check((status, wrote) == (1, b"") and b"a link to kob works" in said, status, said)
+    made = sorted(path.name for path in tree.elsewhere.iterdir())
+    check(made == ["copy", "one", "two"], "beside the link there are", made)
+
+
+def command(*words, timeout=PATIENCE, **more):
+    done = subprocess.run(words, stdout=subprocess.PIPE, stderr=subprocess.PIPE, timeout=timeout, **more)
+    check(done.returncode == 0, words, "ended with", done.returncode, done.stderr)
+    return done.stdout
+
+
+def has(*tools):
+    missing = [tool for tool in tools if not shutil.which(tool)]
+    if missing:
+        print(f"kob: linking by pkg-config is not run: there is no {' and no '.join(missing)}")
+    return not missing
+
+
+def installed(tree, prefix, version):
+    """What stands in a prefix works with no checkout and no kit."""
+    kob = prefix / "bin/kob"
+    expect(tree.run("list", data=WORDS, kob=kob), 0, LISTING, b"")
+    expect(tree.run("version", kob=kob), 0, b"kobbeskuim %s\n" % version.encode(), b"")
+    status, _, said = tree.run("staticlib", kob=kob)
+    check(status == 1 and b"for a checkout" in said, "staticlib of an installed kob", status, said)
+    for name in ("lib/libkobbeskuim.a", f"lib/libkobbeskuim.so.{version}", "include/kobbeskuim.h", "share/doc/kobbeskuim/docs/execute.md"):
+        check((prefix / name).is_file(), "there is no", name)
+    if has("pkg-config", "gcc"):
+        program = prefix / "first"
+        flags = 'eval "gcc \\"\\$1\\" $(pkg-config --cflags --libs kobbeskuim) -o \\"\\$2\\""'
+        environment = {**os.environ, "PKG_CONFIG_PATH": str(prefix / "lib/pkgconfig")}
+        command("sh", "-c", flags, "sh", ROOT / "examples/c/first.c", program, env=environment)
+        check(b"libkobbeskuim.so." in command("readelf", "-d", program), "it is not linked with the shared object")
+        check(command(program, env={**os.environ, "LD_LIBRARY_PATH": str(prefix / "lib")}) == FIRST, "first.c")
+        asked = command("pkg-config", "--modversion", "kobbeskuim", env=environment).decode().strip()
+        check(asked == version, "the .pc says", asked)
+
+
+def installs(tree):
+    version = re.search(r'KOB_VERSION "(.*)"', (ROOT / "include/kobbeskuim.h").read_text())[1]
+    prefix = tree.work / "a prefix"
+    status, _, said = tree.run("install", str(prefix))
+    check(status == 0, "install ended with", status, said)
+    pc = (prefix / "lib/pkgconfig/kobbeskuim.pc").read_text()
+    check("prefix=" + str(prefix).replace(" ", "\\ ") in pc, "the .pc has", pc)
+    tree.root.rename(tree.work / "away")
+    installed(tree, prefix, version)
+    (tree.work / "away").rename(tree.root)
+
+
+def makes_a_tar(tree):
+    """The checkout itself, by the kit's rt."""
+    version = re.search(r'KOB_VERSION "(.*)"', (ROOT / "include/kobbeskuim.h").read_text())[1]
+    made = Path(command(ROOT / "kob", "dist", cwd=tree.elsewhere, timeout=BUILDING).decode().rstrip("\n"))
+    with tarfile.open(made) as tar:
+        tar.extractall(tree.work / "unpacked")
+    prefix = tree.work / "unpacked" / made.name[: -len(".tar.gz")]
+    note = (prefix / "share/doc/kobbeskuim/PROVED.txt").read_text()
+    commit = command("git", "-C", ROOT, "rev-parse", "HEAD").decode().strip()
+    for part in (f"Kobbeskuim {version},", f"commit: {commit}", f"kit: {command('rt', 'version').decode().strip()}"):
+        check(part in note, "the note has no", part, note)
+    crates = [line.split(":")[0] for line in (ROOT / "crates.txt").read_text().splitlines() if re.match(r"[a-z]", line)]
+    for crate in crates:
+        counted = re.search(rf"^{crate} \d+$", note, re.M)
+        check(bool(counted) != crate.endswith("cases"), "the note counts", crate, "wrongly")
+    installed(tree, prefix, version)
+
+
+SCENARIOS = (
+    status_of_a_listing, status_of_a_closed_pipe, status_of_a_run, status_of_usage, statuses_by_make, starts_in_5_ms,
+    builds_once, fails_to_build, two_at_once, interrupted, read_only_tree, pages, links, installs, makes_a_tar,
+)  # fmt: skip
+
+
+def main():
+    failed = 0
+    with tempfile.TemporaryDirectory() as work:
+        for scenario in SCENARIOS:
+            own = Path(work) / scenario.__name__
+            own.mkdir()
+            os.chmod(work, 0o755)
+            try:
+                scenario(Tree(own))
+            except (Fault, OSError, subprocess.TimeoutExpired) as fault:
+                failed += 1
+                print(f"kob: {scenario.__name__}: {fault}", flush=True)
+    print(f"kob: {len(SCENARIOS)} scenarios, {failed} failed")
+    return 1 if failed else 0
+
+
+if __name__ == "__main__":
+    sys.exit(main())

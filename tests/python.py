@@ -1,0 +1,354 @@
+#!/usr/bin/env python3
+"""Tests of the Python module, bindings/python/kobbeskuim.py, held to the independent model; its doctests, and the
+session of docs/python.md.
+
+    python3 tests/python.py
+
+The shared library is target/sharedlib/libkobbeskuim.so unless KOBBESKUIM_LIBRARY names another. All cases are seeded.
+"""
+
+import _ctypes
+import ctypes
+import doctest
+import os
+import pickle
+import re
+import shutil
+import struct
+import subprocess
+import sys
+import tempfile
+import unittest
+from array import array
+from itertools import product
+from pathlib import Path
+
+ROOT = Path(__file__).resolve().parent.parent
+MODULE = ROOT / "bindings/python/kobbeskuim.py"
+LIBRARY = Path(os.environ.setdefault("KOBBESKUIM_LIBRARY", str(ROOT / "target/sharedlib/libkobbeskuim.so"))).resolve()
+if not LIBRARY.is_file():
+    sys.exit(f"python: there is no {LIBRARY}: ./kob staticlib builds the tree's")
+sys.dont_write_bytecode = True  # the repository stays as it was
+sys.path[:0] = [str(MODULE.parent), str(ROOT / "reference")]
+import cases
+import execution
+import harness
+import kernel_cases
+import kobbeskuim
+import model
+import run_cases
+from execution import LENGTHS, MULTIPLES
+from kobbeskuim import Family, Form, Number, Operation, Refused, Size, Stopped
+
+CADD, OUTSIDE, RESERVED = 0x4500D800, 0x00000000, 0x2F00F000
+SQCADD_Z0_Z1 = 0x4501D820  # SQCADD Z0.B, Z0.B, Z1.B, 90
+
+
+def answered(call, *arguments):
+    """The number, and what the call returned."""
+    try:
+        return 0, call(*arguments)
+    except Refused as refused:
+        return refused.number, None
+
+
+def ran(length, file, flag, words):
+    """A run by the module, as the model tells it."""
+    lent = bytearray(file)
+    try:
+        number, (done, qc) = 0, kobbeskuim.run(length, lent, words, flag)
+    except Stopped as stopped:
+        number, done, qc = stopped.number, stopped.done, stopped.qc
+        if stopped.word != words[done]:
+            raise AssertionError(f"stopped at {stopped.word:08X}, which is not word {done}") from stopped
+    except Refused as refused:
+        number, done, qc = refused.number, 0, flag
+    return execution.Ran(number, done, qc, bytes(lent))
+
+
+class Runs(unittest.TestCase):
+    @classmethod
+    def setUpClass(cls):
+        cls.maker = harness.Maker(cases.Source(7))
+
+    def agree(self, length, size, words):
+        given = length, self.maker.file(size), self.maker.flag(), words
+        found, wanted = ran(*given), execution.run(*given)
+        self.assertEqual(found[:3], wanted[:3], (length, size, words[:9]))
+        self.assertTrue(found.file == wanted.file, (length, size, words[:9]))
+        return found.number
+
+    def test_every_operation_at_every_length(self):
+        for op, length in product(self.maker.operations, LENGTHS):
+            self.agree(length, 4 * length, [self.maker.word(self.maker.registers(op))])
+
+    def test_programs_that_end_and_that_stop(self):
+        ended = set()
+        for k, length in product(range(60), LENGTHS):
+            words = [self.maker.good() for _ in range(k % 10)]
+            if k % 3:
+                stop = self.maker.outside() if k % 3 == 1 else self.maker.reserved()
+                words.insert(self.maker.source.below(len(words) + 1), stop)
+            ended.add(self.agree(length, 4 * length, words))
+        self.assertEqual(ended, {Number.DONE, Number.OUTSIDE, Number.RESERVED})
+
+    def test_every_length_to_past_the_last(self):
+        numbers = [self.agree(length, min(4 * length, 8192), [CADD]) for length in range(2200)]
+        passed = {length for length, number in enumerate(numbers) if number == Number.DONE}
+        self.assertEqual(passed, {128, 256, 512, 1024, 2048})
+        self.assertEqual(numbers.count(Number.NOT_POWER_OF_TWO), 11)
+        for length in (4096, 2**32, 2**32 + 128, 2**63, 2**64 - 128, 2**64 - 1):
+            self.assertEqual(self.agree(length, 512, [CADD]), Number.BAD_LENGTH)
+
+    def test_sizes_of_files(self):
+        for length in LENGTHS:
+            whole = 4 * length
+            for size, number in ((0, 2), (whole - 1, 2), (whole, 0), (whole + 1, 2)):
+                self.assertEqual(self.agree(length, size, []), number)
+
+    def test_numbers_of_words(self):
+        for words, number in (([CADD] * 4096, 0), ([CADD] * 4097, 3), ([OUTSIDE] * 4097, 3), ([], 0)):
+            self.assertEqual(self.agree(128, 512, words), number)
+
+    def test_the_first_check_that_applies(self):
+        many = [OUTSIDE] * 4097
+        for length, size, words, number in (
+            (0, 0, many, 1), (192, 511, many, 1), (384, 511, many, 11), (384, 1536, many, 11), (128, 511, many, 2),
+            (128, 512, [CADD, OUTSIDE, RESERVED], 4), (128, 512, [CADD, RESERVED, OUTSIDE], 5),
+        ):  # fmt: skip
+            self.assertEqual(self.agree(length, size, words), number)
+
+
+class Registers(unittest.TestCase):
+    def test_either_side_of_each_edge(self):
+        for length in (0, 127, 192, 2176, 4096, *MULTIPLES):
+            sizes = {0, 4 * length - 1, 4 * length, 4 * length + 1} - {-1}
+            for size, n in product(sizes, (0, 1, 30, 31, 32, 40, 2**32, 2**64 - 1)):
+                file = run_cases.bytes_from(1).ljust(16385, b"\0")[:size]
+                number, part = answered(kobbeskuim.register, length, file, n)
+                wanted = execution.register(length, file, n)
+                self.assertEqual((number, bytes(part or b"")), wanted, (length, size, n))
+
+    def test_the_part_is_of_the_own_file(self):
+        for length in LENGTHS:
+            file, width = bytearray(4 * length), length // 8
+            for n in range(32):
+                kobbeskuim.register(length, file, n)[:] = bytes([n]) * width
+            self.assertEqual(file, bytes(n for n in range(32) for _ in range(width)))
+
+    def test_a_file_to_read_gives_a_part_to_read(self):
+        self.assertTrue(kobbeskuim.register(128, bytes(512), 0).readonly)
+
+
+class Words(unittest.TestCase):
+    def test_decode(self):
+        number = {model.OUTSIDE: Number.OUTSIDE, model.RESERVED: Number.RESERVED}
+        for word in (*cases.words(), *cases.Source(8).mix(5000)):
+            wanted = model.decode(word)
+            found = answered(kobbeskuim.decode, word)
+            self.assertEqual(found, (number[wanted], None) if wanted in number else (0, wanted), hex(word))
+
+    def test_decoded_fields_have_their_types(self):
+        for word, wanted in model.P1_TO_P7[:6]:
+            found = kobbeskuim.decode(word)
+            self.assertEqual([type(field) for field in found], [Family, Size, Form, int, int, int, int, int])
+            self.assertEqual(found.family.name, model.NAMES[wanted.family].replace("-", "_"))
+
+    def encodes(self, fields):
+        number, word = struct.unpack("<2I", harness.encode_case(fields)[1])  # the model's, and 32 and 33
+        found = answered(kobbeskuim.encode, fields)
+        self.assertEqual(found, (number, None) if number else (0, word), fields)
+        return number
+
+    def test_encode(self):
+        found = {self.encodes(op) for op in cases.operations()}
+        for op in kernel_cases.operations():
+            for place, value in product(range(8), harness.NUMBERS):
+                found.add(self.encodes([*op[:place], value, *op[place + 1 :]]))
+            found.update(self.encodes(fields) for fields in ([], op[:7], op, [*op, 0]))
+        self.assertEqual(found, {0, 7, 8, 9, 10, 32, 33})
+
+    def test_listing(self):
+        data, text = model.EXAMPLE
+        self.assertEqual(kobbeskuim.listing(data), text.decode())
+        source = cases.Source(9)
+        for count, tail in product((0, 1, 2, 500), range(4)):
+            data = struct.pack(f"<{count}I", *source.mix(count)) + bytes(tail)
+            for given in (data, bytearray(data), memoryview(data)):
+                self.assertEqual(kobbeskuim.listing(given), model.listing(data).decode())
+
+    def test_the_longest_listing(self):
+        line, most = "4500D800 CADD\n", 1048576
+        data = struct.pack("<I", CADD) * (most + 2)
+        for end, last in ((4 * most, "TOTAL 1048576\n"), (4 * most + 3, "TAIL 3\nTOTAL 1048576\n"),
+                          (4 * most + 4, "LIMIT\n"), (4 * most + 7, "LIMIT\n"), (4 * most + 8, "LIMIT\n")):  # fmt: skip
+            self.assertTrue(kobbeskuim.listing(data[:end]) == line * most + last, end)
+
+
+class Arguments(unittest.TestCase):
+    """What C cannot take is refused before the call, and the file stays as it was."""
+
+    def test_numbers_of_too_many_bits(self):
+        file, op = bytearray(512), Operation(Family.CADD, Size.B, turns=1)
+        for wrong in (-1, -(2**64), 2**64, 2**64 + 128):
+            for call in (kobbeskuim.run, kobbeskuim.register):
+                self.assertRaisesRegex(ValueError, f"^length is {wrong},.*2.64", call, wrong, file, 0)
+            self.assertRaisesRegex(ValueError, "^register is", kobbeskuim.register, 128, file, wrong)
+        for wrong in (-1, 2**32, 2**32 + CADD, 2**64 + CADD):
+            self.assertRaisesRegex(ValueError, f"^word 1 is {wrong},.*2.32", kobbeskuim.run, 128, file, [CADD, wrong])
+            self.assertRaisesRegex(ValueError, "^word is", kobbeskuim.decode, wrong)
+            self.assertRaisesRegex(ValueError, "^field 7 is", kobbeskuim.encode, op._replace(index=wrong))
+        self.assertEqual(file, bytes(512))
+
+    def test_types(self):
+        file = bytearray(512)
+        for call, *arguments in (
+            (kobbeskuim.run, 128.0, file, []), (kobbeskuim.run, "128", file, []), (kobbeskuim.run, 128, file, [1.0]),
+            (kobbeskuim.run, 128, file, "word"), (kobbeskuim.run, 128, file, None), (kobbeskuim.run, 128, file, 0),
+            (kobbeskuim.run, 128, 512, []), (kobbeskuim.run, 128, "file", []), (kobbeskuim.run, 128, None, []),
+            (kobbeskuim.register, 128, memoryview(bytearray(1024))[::2], 0), (kobbeskuim.register, 128, 512, 0),
+            (kobbeskuim.register, 128, file, 1.0), (kobbeskuim.decode, 1.0), (kobbeskuim.decode, None),
+            (kobbeskuim.encode, None), (kobbeskuim.encode, [1.0]),
+            (kobbeskuim.listing, "text"), (kobbeskuim.listing, 4),
+        ):  # fmt: skip
+            self.assertRaises(TypeError, call, *arguments)
+        for wrong in (bytes(512), b"", memoryview(file).toreadonly(), memoryview(bytearray(1024))[::2]):
+            self.assertRaisesRegex(TypeError, "^file .*: lend a bytearray", kobbeskuim.run, 128, wrong, [])
+
+    def test_buffers_of_every_kind(self):
+        words = iter([SQCADD_Z0_Z1] * 9), (SQCADD_Z0_Z1,) * 9, array("I", [SQCADD_Z0_Z1] * 9)
+        whole = memoryview(bytearray(b"\1" * 514))
+        for file, program in zip((array("h", [257] * 256), whole[1:513], bytearray(b"\1" * 512)), words):
+            self.assertEqual(kobbeskuim.run(128, file, program, True), (9, True))
+            wanted = execution.run(128, b"\1" * 512, True, [SQCADD_Z0_Z1] * 9).file
+            self.assertEqual(bytes(file), wanted)
+            self.assertEqual(bytes(kobbeskuim.register(128, file, 0)), wanted[:16])
+        self.assertEqual((whole[0], whole[513]), (1, 1))
+
+    def test_nothing_at_all(self):
+        for empty in (bytearray(), array("I"), memoryview(bytearray(4))[4:]):
+            self.assertEqual(answered(kobbeskuim.run, 0, empty, [])[0], Number.BAD_LENGTH)
+            self.assertEqual(answered(kobbeskuim.run, 128, empty, [])[0], Number.BAD_SIZE)
+            self.assertEqual(answered(kobbeskuim.register, 128, empty, 0)[0], Number.BAD_SIZE)
+            self.assertEqual(kobbeskuim.listing(empty), "TOTAL 0\n")
+
+    def test_the_file_is_free_where_a_refusal_is_caught(self):
+        for call in (kobbeskuim.run, kobbeskuim.register):
+            file = bytearray(511)
+            try:
+                call(128, file, [0] if call is kobbeskuim.run else 0)
+            except Refused:
+                file.append(0)  # BufferError while any part of it is held
+            self.assertEqual(len(file), 512)
+
+    def test_exceptions(self):
+        with self.assertRaises(Stopped) as caught:
+            kobbeskuim.run(128, bytearray(512), [CADD, RESERVED], True)
+        for stopped in (caught.exception, pickle.loads(pickle.dumps(caught.exception))):
+            self.assertEqual(str(stopped), "5, reserved word: at word 1, 2F00F000")
+            self.assertIs(stopped.number, Number.RESERVED)
+            self.assertEqual((stopped.done, stopped.qc, stopped.word), (1, True, RESERVED))
+
+
+class Header(unittest.TestCase):
+    """The module has what include/kobbeskuim.h has: all of it, and nothing else."""
+
+    text = (ROOT / "include/kobbeskuim.h").read_text()
+
+    def test_constants(self):
+        defined = {name: int(value) for name, value in re.findall(r"^#define KOB_(\w+) (\d+)\b", self.text, re.M)}
+        found = {name: value for name, value in vars(kobbeskuim).items() if name.isupper() and type(value) is int}
+        found.update((member.name, member.value) for kind in (Number, Family, Form) for member in kind)
+        found.update((f"SIZE_{size.name}", size.value) for size in Size)
+        found.update((field.upper(), place) for place, field in enumerate(Operation._fields))
+        found["FIELDS"] = len(Operation._fields)
+        version = (f"VERSION_{part}" for part in ("MAJOR", "MINOR", "PATCH"))
+        found.update(zip(version, map(int, kobbeskuim.VERSION.split("."))))
+        self.assertEqual(found, defined)
+        self.assertEqual([kobbeskuim.VERSION], re.findall(r'^#define KOB_VERSION "(.*)"', self.text, re.M))
+
+    def test_texts(self):
+        texts = dict(re.findall(r'case KOB_(\w+):\s*return "([^"]*)"', self.text))
+        self.assertEqual({number.name: number.text for number in Number}, texts)
+
+    def test_calls(self):
+        types = {"size_t": ctypes.c_size_t, "bool": ctypes.c_bool}
+        types.update((f"uint{n}_t", getattr(ctypes, f"c_uint{n}")) for n in (8, 32, 64))
+
+        def type_of(argument):
+            name = argument.replace("const ", "").split()[0]
+            return ctypes.POINTER(types[name]) if "*" in argument else types[name]
+
+        declared = re.findall(r"^(\w+) (kob_\w+)\(([^)]*)\);", self.text, re.M)
+        found = {name: (types[answer], *map(type_of, rest.split(","))) for answer, name, rest in declared}
+        self.assertEqual(kobbeskuim._CALLS, found)
+
+
+class Loading(unittest.TestCase):
+    """Where the library is found, in a folder with a space in its name."""
+
+    def setUp(self):
+        folder = tempfile.TemporaryDirectory()
+        self.addCleanup(folder.cleanup)
+        self.prefix = Path(folder.name).resolve() / "a prefix"
+
+    def put(self, module, library=None, content=None):
+        """The module in its folder, and the library, or a file with this content, in its own."""
+        self.module = self.prefix / module
+        self.module.mkdir(parents=True)
+        shutil.copy(MODULE, self.module)
+        if library:
+            library = self.prefix / library
+            library.parent.mkdir(parents=True)
+            library.symlink_to(LIBRARY) if content is None else library.write_text(content)
+        return library
+
+    def loaded(self, **environment):
+        """What the import says: the library, or the last line of its fault."""
+        given = {**os.environ, "KOBBESKUIM_LIBRARY": "", "PYTHONPATH": str(self.module), **environment}
+        command = [sys.executable, "-B", "-c", "import kobbeskuim; print(kobbeskuim._library._name)"]
+        done = subprocess.run(command, env=given, stdout=subprocess.PIPE, stderr=subprocess.PIPE, cwd=self.prefix)
+        return (done.stdout or done.stderr).decode().splitlines()[-1]
+
+    def test_in_a_tree(self):
+        library = self.put("bindings/python", "target/sharedlib/libkobbeskuim.so")
+        self.assertEqual(self.loaded(), str(library))
+
+    def test_installed(self):
+        library = self.put("share/kobbeskuim/python", "lib/libkobbeskuim.so.0")
+        self.assertEqual(self.loaded(), str(library))
+
+    def test_by_the_loader(self):
+        library = self.put("elsewhere", "somewhere/libkobbeskuim.so.0")
+        self.assertEqual(self.loaded(LD_LIBRARY_PATH=str(library.parent)), "libkobbeskuim.so.0")
+
+    def test_by_the_variable(self):
+        library = self.put("bindings/python", "target/sharedlib/libkobbeskuim.so", "no library")
+        self.assertEqual(self.loaded(KOBBESKUIM_LIBRARY=str(LIBRARY)), str(LIBRARY))
+        (self.prefix / "named.so").symlink_to(LIBRARY)
+        self.assertEqual(self.loaded(KOBBESKUIM_LIBRARY="named.so"), str(self.prefix / "named.so"))
+        self.refused(str(library), self.loaded())  # a broken one is told, and no other taken in its place
+
+    def refused(self, name, line):
+        self.assertTrue(line.startswith("ImportError: kobbeskuim: the shared library cannot be loaded: "), line)
+        for part in (name, "./kob staticlib", "./kob install PREFIX", "KOBBESKUIM_LIBRARY"):
+            self.assertIn(part, line)
+
+    def test_not_there(self):
+        library = self.put("elsewhere", "somewhere/libkobbeskuim.so.0", "no library")
+        self.refused("libkobbeskuim.so.0", self.loaded(LD_LIBRARY_PATH=str(library.parent)))
+        self.refused("missing.so", self.loaded(KOBBESKUIM_LIBRARY="missing.so"))
+
+    def test_another_library(self):
+        self.put("elsewhere")
+        self.refused("undefined symbol: kob_run", self.loaded(KOBBESKUIM_LIBRARY=_ctypes.__file__))
+
+
+def load_tests(_loader, tests, _pattern):
+    tests.addTests(doctest.DocTestSuite(kobbeskuim))
+    tests.addTests(doctest.DocFileSuite(str(ROOT / "docs/python.md"), module_relative=False))
+    return tests
+
+
+if __name__ == "__main__":
+    unittest.main()
