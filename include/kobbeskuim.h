@@ -92,7 +92,7 @@ static inline const char *kob_text(unsigned number) {
     case KOB_NOT_POWER_OF_TWO: return "length not a power of two";
     case KOB_BAD_FIELDS: return "fields not 8 numbers";
     case KOB_NO_OPERATION: return "fields that name no operation";
-    default: return "no number of this library";
+    default: return "no number of these calls";
     }
 }
 

@@ -6,24 +6,10 @@ cd "$(dirname "$0")/.." || exit 1
 archive=target/staticlib/libkobbeskuim.a
 [ -f "$archive" ] || ./kob staticlib >/dev/null || exit 1
 work=$(mktemp -d) || exit 1
-trap 'chmod -R u+w "$work"; rm -rf "$work"' EXIT
+trap 'rm -rf "$work"' EXIT
 count=0
-failed=0
-
-# prints NAME EXPECTED COMMAND..: the command succeeds and prints that
-prints() {
-    local name=$1 expected=$2 printed
-    shift 2
-    count=$((count + 1))
-    if ! printed=$("$@"); then
-        echo "capi: $name failed" >&2
-    elif [ "$printed" != "$expected" ]; then
-        printf 'capi: %s printed\n%s\nand not\n%s\n' "$name" "$printed" "$expected" >&2
-    else
-        return
-    fi
-    failed=$((failed + 1))
-}
+suite=capi
+. tests/prints.sh
 
 built() { # NAME COMMAND..
     local program=$work/$1
@@ -33,6 +19,7 @@ built() { # NAME COMMAND..
 
 # example NAME EXPECTED COMMAND..: the command builds $work/NAME, which is then run
 example() {
+    count=$((count + 1))
     prints "$1" "$2" built "$1" "${@:3}"
 }
 
@@ -77,23 +64,24 @@ crate_tests() {
     cargo test --quiet --offline --locked --manifest-path bindings/rust/Cargo.toml >&2
 }
 
-# The crate with no right to write, as in a prefix.
+# The crate as in a prefix, in which cargo is to write nothing.
 install_crate() { # PREFIX
     mkdir -p "$1/lib" "$1/share/kobbeskuim/rust" && cp "$archive" "$1/lib" &&
-        cp -r bindings/rust/{Cargo.toml,Cargo.lock,build.rs,src} "$1/share/kobbeskuim/rust" && chmod -R a-w "$1"
+        cp -r bindings/rust/{Cargo.toml,Cargo.lock,build.rs,src} "$1/share/kobbeskuim/rust"
 }
 
 new_project() {
-    local prefix="$work/the prefix" project="$work/the project"
-    install_crate "$prefix" && cargo new --quiet --vcs none --edition 2024 --name bench "$project" >&2 || return
+    local prefix="$work/the prefix" project="$work/the project" before
+    install_crate "$prefix" && before=$(ls -lR "$prefix") && cargo new --quiet --vcs none --edition 2024 --name bench "$project" >&2 || return
     echo "kobbeskuim = { path = '$prefix/share/kobbeskuim/rust' }" >>"$project/Cargo.toml"
     cp bindings/rust/examples/first.rs "$project/src/main.rs"
-    cargo run --quiet --offline --manifest-path "$project/Cargo.toml"
+    cargo run --quiet --offline --manifest-path "$project/Cargo.toml" && [ "$before" = "$(ls -lR "$prefix")" ]
 }
 
 minor=$(cargo --version 2>/dev/null | sed -n 's/^cargo 1\.\([0-9]*\)\..*/\1/p')
 if [ "${minor:-0}" -ge 85 ]; then
     export CARGO_TARGET_DIR=$work/cargo RUSTFLAGS='-D warnings' RUSTDOCFLAGS='-D warnings'
+    count=$((count + 2))
     prints rust-crate '' crate_tests
     prints rust-project 'word 4501D820, done 1, lane 0 is 127' new_project
 else
@@ -105,6 +93,14 @@ fi
 asked=$(nm "$archive" | awk '$1 == "U" { asked[$2] } NF == 3 { has[$3] } END { for (s in asked) if (!(s in has)) print s }')
 if [ "$asked" != memset ]; then
     printf 'capi: the archive asks for\n%s\nand not for memset alone\n' "$asked" >&2
+    failed=$((failed + 1))
+fi
+
+# ---- what the shared object gives: the header's calls, and nothing else
+
+given=$(nm -D --defined-only target/sharedlib/libkobbeskuim.so | awk '{ print $3 }' | sort)
+if [ "$given" != "$(sed -n 's/^uint[0-9]*_t \(kob_[a-z_]*\)(.*/\1/p' include/kobbeskuim.h | sort)" ]; then
+    printf 'capi: the shared object gives\n%s\nand not the calls of the header\n' "$given" >&2
     failed=$((failed + 1))
 fi
 

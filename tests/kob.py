@@ -42,8 +42,8 @@ mkdir -p target/bin target/staticlib target/log
 shift
 for crate; do
     for file in "bin/$crate" "staticlib/lib$crate.a"; do [ ! -f "$RT_BUILT/$file" ] || cp "$RT_BUILT/$file" "target/$file"; done
-    echo 'logic=proved functions=7 ' >"target/log/$crate.say"
 done
+for crate in $(sed -n 's/:.*//p' crates.txt); do echo 'logic=proved functions=7 ' >"target/log/$crate.say"; done
 """
 
 
@@ -106,6 +106,7 @@ class Tree:
 
     def fresh(self):
         shutil.rmtree(self.root / "target", ignore_errors=True)
+        Path(f"{self.log}.sleeper").unlink(missing_ok=True)
         self.calls()
 
 
@@ -162,9 +163,10 @@ def status_of_usage(tree):
 
 
 def statuses_by_make(tree):
+    """By the rule of docs/list.md."""
     tree.lists()
-    rules = f".DELETE_ON_ERROR:\n%.txt: %.bin\n\t'{tree.kob}' list < $< > $@\n"
-    (tree.elsewhere / "Makefile").write_text(rules)
+    rules = re.search(r"^```\n(\.DELETE.*?)^```$", (ROOT / "docs/list.md").read_text(), re.M | re.S)[1]
+    (tree.elsewhere / "Makefile").write_text(rules.replace("./kob", f"'{tree.kob}'"))
     (tree.elsewhere / "good.bin").write_bytes(WORDS)
     (tree.elsewhere / "bad.bin").mkdir()
     for name, status in (("good", 0), ("bad", 2)):
@@ -173,14 +175,21 @@ def statuses_by_make(tree):
         check((tree.elsewhere / f"{name}.txt").exists() == (status == 0), "the target of", name)
 
 
-def starts_in_5_ms(tree):
-    tree.lists()
-    least = PATIENCE
+def fastest(command, *arguments):
+    """Of 30 times, in ms."""
+    times = []
     for _ in range(30):
         began = time.perf_counter()
-        tree.lists()
-        least = min(least, time.perf_counter() - began)
-    check(least < 0.005, f"the fastest of 30 took {least * 1000:.1f} ms")
+        command(*arguments)
+        times.append(1000 * (time.perf_counter() - began))
+    return min(times)
+
+
+def starts_in_5_ms(tree):
+    """Or, where the machine is slow or busy, in four times what a shell takes that does nothing."""
+    tree.lists()
+    listing, shell = fastest(tree.lists), fastest(command, "sh", "-c", ":")
+    check(listing < max(5, 4 * shell), f"it took {listing:.1f} ms, and an empty shell {shell:.1f}")
 
 
 # ---- building
@@ -204,7 +213,7 @@ def builds_once(tree):
 
 
 def fails_to_build(tree):
-    expected = b"kob: rt check list failed, so the program is not run\n"
+    expected = b"kob: rt check list failed, so there is no 'kob list'\n"
     status, wrote, said = tree.run("list", data=WORDS, rt={"RT_FAILS": "1"})
     check((status, wrote) == (1, b"") and said.endswith(expected), status, wrote, said)
     tree.lists()
@@ -216,8 +225,20 @@ def fails_to_build(tree):
     expect(tree.run("list", rt={"PATH": str(bare)}), 1, b"", b"kob: cannot build: there is no rt on the PATH\n")
 
 
+def working(tree, process):
+    """Waits until rt is at work, and returns the number of its child."""
+    sleeper = Path(f"{tree.log}.sleeper")
+    until = time.monotonic() + PATIENCE
+    while not (sleeper.exists() and sleeper.read_text()):
+        check(process.poll() is None and time.monotonic() < until, "it did not call rt")
+        time.sleep(0.01)
+    return int(sleeper.read_text())
+
+
 def two_at_once(tree):
-    both = [tree.start("list", stdin=subprocess.PIPE, rt={"RT_SECONDS": "1"}) for _ in range(2)]
+    both = [tree.start("list", stdin=subprocess.PIPE, rt={"RT_SECONDS": "2"})]
+    working(tree, both[0])
+    both.append(tree.start("list", stdin=subprocess.PIPE))
     ended = [process.communicate(WORDS, timeout=PATIENCE) for process in both]
     check([process.returncode for process in both] == [0, 0], "statuses", [process.returncode for process in both])
     check([wrote for wrote, _ in ended] == [LISTING, LISTING], "the listings", ended)
@@ -233,18 +254,14 @@ def alive(number):
 
 
 def interrupted(tree):
-    sleeper = Path(f"{tree.log}.sleeper")
     for hit, number in ((os.killpg, signal.SIGINT), (os.kill, signal.SIGINT), (os.kill, signal.SIGTERM), (os.kill, signal.SIGHUP)):
         tree.fresh()
-        sleeper.unlink(missing_ok=True)
         process = tree.start("list", rt={"RT_SECONDS": "600"})
-        while not sleeper.exists() or not sleeper.read_text():
-            check(process.poll() is None, "it ended at once")
-            time.sleep(0.01)
+        child = working(tree, process)
         hit(process.pid, number)
         _, said = process.communicate(timeout=PATIENCE)
         check(process.returncode == -number, "it ended with", process.returncode, said)
-        check(not alive(int(sleeper.read_text())), "a child goes on after", number)
+        check(not alive(child), "a child goes on after", number)
         check(b"waiting" not in tree.lists(), "a retry has to wait")
 
 
@@ -281,8 +298,10 @@ def pages(tree):
     tree.run("staticlib")
     tree.run("list")
     tree.run("run", data=b"length 128")
-    examples = [example for name in ("README.md", "docs/list.md") for example in shown(tree.root / name)]
-    check(len(examples) > 5, "there are only", examples)
+    examples = [example for name in ("README.md", "docs/list.md", "docs/c.md") for example in shown(tree.root / name)]
+    check(len(examples) > 8, "there are only", examples)
+    first = (tree.root / "examples/c/first.c").read_text()
+    check(first in (tree.root / "README.md").read_text(), "README has another first.c")
     for line, printed in examples:
         wrote = command("sh", "-c", line, cwd=tree.root)
         check(wrote == printed, line, "printed", wrote)
@@ -306,11 +325,17 @@ def command(*words, timeout=PATIENCE, **more):
     return done.stdout
 
 
-def has(*tools):
-    missing = [tool for tool in tools if not shutil.which(tool)]
-    if missing:
-        print(f"kob: linking by pkg-config is not run: there is no {' and no '.join(missing)}")
-    return not missing
+def links_by_pkg_config(prefix, version):
+    if not shutil.which("pkg-config"):
+        return print("kob: not run: linking by pkg-config, which is not there")
+    program = prefix / "first"
+    flags = 'eval "gcc \\"\\$1\\" $(pkg-config --cflags --libs kobbeskuim) -o \\"\\$2\\""'
+    environment = {**os.environ, "PKG_CONFIG_PATH": str(prefix / "lib/pkgconfig")}
+    command("sh", "-c", flags, "sh", ROOT / "examples/c/first.c", program, env=environment)
+    check(b"libkobbeskuim.so." in command("readelf", "-d", program), "it is not linked with the shared object")
+    check(command(program, env={**os.environ, "LD_LIBRARY_PATH": str(prefix / "lib")}) == FIRST, "first.c")
+    asked = command("pkg-config", "--modversion", "kobbeskuim", env=environment).decode().strip()
+    check(asked == version, "the .pc says", asked)
 
 
 def installed(tree, prefix, version):
@@ -320,21 +345,22 @@ def installed(tree, prefix, version):
     expect(tree.run("version", kob=kob), 0, b"kobbeskuim %s\n" % version.encode(), b"")
     status, _, said = tree.run("staticlib", kob=kob)
     check(status == 1 and b"for a checkout" in said, "staticlib of an installed kob", status, said)
-    for name in ("lib/libkobbeskuim.a", f"lib/libkobbeskuim.so.{version}", "include/kobbeskuim.h", "share/doc/kobbeskuim/docs/execute.md"):
-        check((prefix / name).is_file(), "there is no", name)
-    if has("pkg-config", "gcc"):
-        program = prefix / "first"
-        flags = 'eval "gcc \\"\\$1\\" $(pkg-config --cflags --libs kobbeskuim) -o \\"\\$2\\""'
-        environment = {**os.environ, "PKG_CONFIG_PATH": str(prefix / "lib/pkgconfig")}
-        command("sh", "-c", flags, "sh", ROOT / "examples/c/first.c", program, env=environment)
-        check(b"libkobbeskuim.so." in command("readelf", "-d", program), "it is not linked with the shared object")
-        check(command(program, env={**os.environ, "LD_LIBRARY_PATH": str(prefix / "lib")}) == FIRST, "first.c")
-        asked = command("pkg-config", "--modversion", "kobbeskuim", env=environment).decode().strip()
-        check(asked == version, "the .pc says", asked)
+    bindings = prefix / "share/kobbeskuim"
+    pages = prefix / "share/doc/kobbeskuim/docs"
+    for path in (prefix / "lib/libkobbeskuim.a", bindings / "rust/Cargo.toml", bindings / "systemverilog/kobbeskuim.sv", pages / "execute.md"):
+        check(path.is_file(), "there is no", path)
+    code = "import kobbeskuim; print(kobbeskuim._library._name)"
+    library = command(sys.executable, "-B", "-c", code, env={"PYTHONPATH": str(bindings / "python")}).decode().strip()
+    check(Path(library).resolve() == prefix / f"lib/libkobbeskuim.so.{version}", "Python loads", library)
+    links_by_pkg_config(prefix, version)
+
+
+def header_version():
+    return re.search(r'KOB_VERSION "(.*)"', (ROOT / "include/kobbeskuim.h").read_text())[1]
 
 
 def installs(tree):
-    version = re.search(r'KOB_VERSION "(.*)"', (ROOT / "include/kobbeskuim.h").read_text())[1]
+    version = header_version()
     prefix = tree.work / "a prefix"
     status, _, said = tree.run("install", str(prefix))
     check(status == 0, "install ended with", status, said)
@@ -347,7 +373,7 @@ def installs(tree):
 
 def makes_a_tar(tree):
     """The checkout itself, by the kit's rt."""
-    version = re.search(r'KOB_VERSION "(.*)"', (ROOT / "include/kobbeskuim.h").read_text())[1]
+    version = header_version()
     made = Path(command(ROOT / "kob", "dist", cwd=tree.elsewhere, timeout=BUILDING).decode().rstrip("\n"))
     with tarfile.open(made) as tar:
         tar.extractall(tree.work / "unpacked")
@@ -358,7 +384,8 @@ def makes_a_tar(tree):
         check(part in note, "the note has no", part, note)
     crates = [line.split(":")[0] for line in (ROOT / "crates.txt").read_text().splitlines() if re.match(r"[a-z]", line)]
     for crate in crates:
-        counted = re.search(rf"^{crate} \d+$", note, re.M)
+        assumed = r", assuming libc::read, libc::write" if crate in ("list", "execute") else ""
+        counted = re.search(rf"^{crate} \d+{assumed}$", note, re.M)
         check(bool(counted) != crate.endswith("cases"), "the note counts", crate, "wrongly")
     installed(tree, prefix, version)
 

@@ -36,10 +36,12 @@ import harness
 import kernel_cases
 import kobbeskuim
 import model
+import report
 import run_cases
 from execution import LENGTHS, MULTIPLES
 from kobbeskuim import Family, Form, Number, Operation, Refused, Size, Stopped
 
+SONAME = f"libkobbeskuim.so.{kobbeskuim.VERSION.split('.')[0]}"
 CADD, OUTSIDE, RESERVED = 0x4500D800, 0x00000000, 0x2F00F000
 SQCADD_Z0_Z1 = 0x4501D820  # SQCADD Z0.B, Z0.B, Z1.B, 90
 
@@ -270,6 +272,8 @@ class Header(unittest.TestCase):
     def test_texts(self):
         texts = dict(re.findall(r'case KOB_(\w+):\s*return "([^"]*)"', self.text))
         self.assertEqual({number.name: number.text for number in Number}, texts)
+        # Those of a run are what 'kob run' prints.
+        self.assertEqual(report.MEANING, {n: Number(n).text for n in report.MEANING})
 
     def test_calls(self):
         types = {"size_t": ctypes.c_size_t, "bool": ctypes.c_bool}
@@ -311,19 +315,19 @@ class Loading(unittest.TestCase):
         return (done.stdout or done.stderr).decode().splitlines()[-1]
 
     def test_in_a_tree(self):
-        library = self.put("bindings/python", "target/sharedlib/libkobbeskuim.so")
+        library = self.put("bindings/python", f"target/sharedlib/{SONAME}")
         self.assertEqual(self.loaded(), str(library))
 
     def test_installed(self):
-        library = self.put("share/kobbeskuim/python", "lib/libkobbeskuim.so.0")
+        library = self.put("share/kobbeskuim/python", f"lib/{SONAME}")
         self.assertEqual(self.loaded(), str(library))
 
     def test_by_the_loader(self):
-        library = self.put("elsewhere", "somewhere/libkobbeskuim.so.0")
-        self.assertEqual(self.loaded(LD_LIBRARY_PATH=str(library.parent)), "libkobbeskuim.so.0")
+        library = self.put("elsewhere", f"somewhere/{SONAME}")
+        self.assertEqual(self.loaded(LD_LIBRARY_PATH=str(library.parent)), SONAME)
 
     def test_by_the_variable(self):
-        library = self.put("bindings/python", "target/sharedlib/libkobbeskuim.so", "no library")
+        library = self.put("bindings/python", f"target/sharedlib/{SONAME}", "no library")
         self.assertEqual(self.loaded(KOBBESKUIM_LIBRARY=str(LIBRARY)), str(LIBRARY))
         (self.prefix / "named.so").symlink_to(LIBRARY)
         self.assertEqual(self.loaded(KOBBESKUIM_LIBRARY="named.so"), str(self.prefix / "named.so"))
@@ -335,8 +339,8 @@ class Loading(unittest.TestCase):
             self.assertIn(part, line)
 
     def test_not_there(self):
-        library = self.put("elsewhere", "somewhere/libkobbeskuim.so.0", "no library")
-        self.refused("libkobbeskuim.so.0", self.loaded(LD_LIBRARY_PATH=str(library.parent)))
+        library = self.put("elsewhere", f"somewhere/{SONAME}", "no library")
+        self.refused(SONAME, self.loaded(LD_LIBRARY_PATH=str(library.parent)))
         self.refused("missing.so", self.loaded(KOBBESKUIM_LIBRARY="missing.so"))
 
     def test_another_library(self):

@@ -14,6 +14,7 @@ so and ends with status 0. Else the last line is 'qemu: N cases, M differences',
 """
 
 import argparse
+import re
 import shutil
 import subprocess
 import sys
@@ -87,6 +88,9 @@ def missing():
     for tool, package in ((QEMU[0], "qemu-user"), (CROSS, "gcc-aarch64-linux-gnu")):
         if not shutil.which(tool):
             return f"there is no {tool} (Debian's {package})"
+    version = subprocess.run([QEMU[0], "--version"], stdout=subprocess.PIPE, text=True).stdout
+    if int(re.search(r"version (\d+)", version)[1]) < 7:
+        return "QEMU is older than 7"
     # A file that the compiler does not find is printed by its name alone.
     found = subprocess.run([CROSS, "-print-file-name=libc.a"], stdout=subprocess.PIPE, text=True).stdout
     return "" if "/" in found else f"{CROSS} has no libc.a (Debian's libc6-dev-arm64-cross)"

@@ -3,29 +3,18 @@
 # of docs/systemverilog.md, and the bench of examples/verilator; both are to print what that page shows.
 set -o pipefail
 cd "$(dirname "$0")/.." || exit 1
-if ! command -v verilator >/dev/null; then
-    echo "verilator: not run: there is no verilator on the PATH (Debian's package verilator)"
+# --binary came with 5.
+major=$(verilator --version 2>/dev/null | sed -n 's/^Verilator \([0-9]*\)\..*/\1/p')
+if [ "${major:-0}" -lt 5 ]; then
+    echo "verilator: not run: there is no Verilator 5 on the PATH (Debian's package verilator)"
     exit 0
 fi
 archive=$PWD/target/staticlib/libkobbeskuim.a
 [ -f "$archive" ] || ./kob staticlib >/dev/null || exit 1
 work=$(mktemp -d) || exit 1
 trap 'rm -rf "$work"' EXIT
-failed=0
-
-# prints NAME EXPECTED COMMAND..: the command succeeds and prints that
-prints() {
-    local name=$1 expected=$2 printed
-    shift 2
-    if ! printed=$("$@"); then
-        printf 'verilator: %s failed\n%s\n' "$name" "$printed" >&2
-    elif [ "$printed" != "$expected" ]; then
-        printf 'verilator: %s printed\n%s\nand not\n%s\n' "$name" "$printed" "$expected" >&2
-    else
-        return
-    fi
-    failed=$((failed + 1))
-}
+suite=verilator
+. tests/prints.sh
 
 shown() { # COMMAND: what the page shows below it
     awk -v command="\$ $1" '/^```/ { on = 0 } on { print } $0 == command { on = 1 }' docs/systemverilog.md
@@ -43,20 +32,22 @@ built() (
     timeout 60 "obj_dir/V$1"
 )
 
+# Without what Verilator says of its own.
+own() { grep -v '^- '; }
+printed() { built "$@" | own; }
+
 ln -s "$archive" "$PWD"/bindings/systemverilog/kobbeskuim.sv "$PWD"/tests/systemverilog.sv "$work" || exit 1
 awk '/^```/ { on = 0 } on { print } /^```systemverilog$/ { on = 1 }' docs/systemverilog.md >"$work/first.sv"
-prints first "$(shown obj_dir/Vfirst)" built first -DKOB_LENGTH=128 -DKOB_WORDS=1
+prints first "$(shown obj_dir/Vfirst | own)" printed first -DKOB_LENGTH=128 -DKOB_WORDS=1
 
 # The constants of the header, but for its version and the fields, which are a structure's members here.
-awk '$1 == "#define" && $3 ~ /^[0-9]+$/ && $2 !~ /^KOB_(VERSION.*|FAMILY|SIZE|FORM|TURNS|DESTINATION|FIRST|SECOND|INDEX)$/ {
+other='^KOB_(VERSION.*|FAMILY|SIZE|FORM|TURNS|DESTINATION|FIRST|SECOND|INDEX)$'
+awk -v other="$other" '$1 == "#define" && $3 ~ /^[0-9]+$/ && $2 !~ other {
     printf "check(\"%s is %s\", %s == %s);\n", $2, $3, $2, $3
 }' include/kobbeskuim.h >"$work/constants.svh"
 texts='int main(void) { for (unsigned n = 0; n < 64; n++) printf("%u %s\n", n, kob_text(n)); }'
 printf '#include <kobbeskuim.h>\n#include <stdio.h>\n%s\n' "$texts" | gcc -Iinclude -xc - -o "$work/texts" || exit 1
-package() {
-    built systemverilog -Wall | grep -v 'Verilog \$finish$'
-}
-prints package "$("$work/texts")" package
+prints package "$("$work/texts")" printed systemverilog -Wall
 
 prints designs "$(shown examples/verilator/run)" examples/verilator/run
 

@@ -29,6 +29,7 @@ if TYPE_CHECKING:
     from _typeshed import ReadableBuffer, WriteableBuffer
 
 VERSION = "0.2.0"
+_SONAME = f"libkobbeskuim.so.{VERSION.split('.')[0]}"
 
 # ---- limits
 
@@ -156,8 +157,8 @@ def _load() -> ctypes.CDLL:
     """The file that KOBBESKUIM_LIBRARY names; else that of the tree or the installation that has this module; else
     the one that the loader finds."""
     here = Path(__file__).resolve().parent
-    beside = (here / "../../target/sharedlib/libkobbeskuim.so", here / "../../../lib/libkobbeskuim.so.0")
-    name = next((os.path.normpath(file) for file in beside if file.is_file()), "libkobbeskuim.so.0")
+    beside = (here / "../../target/sharedlib" / _SONAME, here / "../../../lib" / _SONAME)
+    name = next((os.path.normpath(file) for file in beside if file.is_file()), _SONAME)
     if os.environ.get("KOBBESKUIM_LIBRARY"):
         name = os.path.abspath(os.environ["KOBBESKUIM_LIBRARY"])
     try:

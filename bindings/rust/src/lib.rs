@@ -74,7 +74,7 @@ macro_rules! numbers {
             fn fmt(&self, f: &mut fmt::Formatter) -> fmt::Result {
                 f.pad(match self.0 {
                     $($number => $text,)*
-                    _ => "no number of this library",
+                    _ => "no number of these calls",
                 })
             }
         }
