@@ -140,6 +140,13 @@ def status_of_a_closed_pipe(tree):
     check(process.returncode == 128 + signal.SIGPIPE and said == b"", process.returncode, said)
 
 
+def status_of_what_cannot_start(tree):
+    tree.lists()
+    (tree.root / "target/bin/list").chmod(0o644)
+    status, wrote, said = tree.run("list", data=WORDS)
+    check((status, wrote) == (1, b"") and b"kob: cannot start" in said, status, wrote, said)
+
+
 def status_of_a_run(tree):
     texts = {
         b"length 128\n": (0, b"answer 0 done\nwords done 0\nqc 0\n", b""),
@@ -263,6 +270,19 @@ def interrupted(tree):
         check(process.returncode == -number, "it ended with", process.returncode, said)
         check(not alive(child), "a child goes on after", number)
         check(b"waiting" not in tree.lists(), "a retry has to wait")
+
+
+def interrupted_while_another_waits(tree):
+    builder = tree.start("list", rt={"RT_SECONDS": "600"})
+    working(tree, builder)
+    waiter = tree.start("list", stdin=subprocess.PIPE)
+    while b"waiting" not in waiter.stderr.readline():
+        check(waiter.poll() is None, "it does not wait")
+    began = time.monotonic()
+    builder.terminate()
+    builder.communicate(timeout=PATIENCE)
+    check(time.monotonic() - began < 2, "it took long to end")
+    check(waiter.communicate(WORDS, timeout=PATIENCE)[0] == LISTING and waiter.returncode == 0, "who waited goes on")
 
 
 def read_only_tree(tree):
@@ -391,8 +411,9 @@ def makes_a_tar(tree):
 
 
 SCENARIOS = (
-    status_of_a_listing, status_of_a_closed_pipe, status_of_a_run, status_of_usage, statuses_by_make, starts_in_5_ms,
-    builds_once, fails_to_build, two_at_once, interrupted, read_only_tree, pages, links, installs, makes_a_tar,
+    status_of_a_listing, status_of_a_closed_pipe, status_of_what_cannot_start, status_of_a_run, status_of_usage,
+    statuses_by_make, starts_in_5_ms, builds_once, fails_to_build, two_at_once, interrupted,
+    interrupted_while_another_waits, read_only_tree, pages, links, installs, makes_a_tar,
 )  # fmt: skip
 
 
