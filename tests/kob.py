@@ -418,6 +418,8 @@ SCENARIOS = (
 
 
 def main():
+    for number in (signal.SIGINT, signal.SIGHUP):  # who is started in the background ignores them, and so would kob
+        signal.signal(number, signal.SIG_DFL)
     failed = 0
     with tempfile.TemporaryDirectory() as work:
         for scenario in SCENARIOS:
