@@ -386,6 +386,9 @@ def installs(tree):
     check(status == 0, "install ended with", status, said)
     pc = (prefix / "lib/pkgconfig/kobbeskuim.pc").read_text()
     check("prefix=" + str(prefix).replace(" ", "\\ ") in pc, "the .pc has", pc)
+    for name, why in (("a$prefix", b"no .pc can name"), ("../a tree", b"in the checkout itself")):
+        status, wrote, said = tree.run("install", name)
+        check((status, wrote) == (1, b"") and why in said, "install in", name, "ended with", status, said)
     tree.root.rename(tree.work / "away")
     installed(tree, prefix, version)
     (tree.work / "away").rename(tree.root)
