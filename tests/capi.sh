@@ -75,15 +75,25 @@ new_project() {
     install_crate "$prefix" && before=$(ls -lR "$prefix") && cargo new --quiet --vcs none --edition 2024 --name bench "$project" >&2 || return
     echo "kobbeskuim = { path = '$prefix/share/kobbeskuim/rust' }" >>"$project/Cargo.toml"
     cp bindings/rust/examples/first.rs "$project/src/main.rs"
-    cargo run --quiet --offline --manifest-path "$project/Cargo.toml" && [ "$before" = "$(ls -lR "$prefix")" ]
+    cargo doc --quiet --offline -p kobbeskuim --manifest-path "$project/Cargo.toml" >&2 &&
+        cargo run --quiet --offline --manifest-path "$project/Cargo.toml" && [ "$before" = "$(ls -lR "$prefix")" ]
+}
+
+# The commands of docs/rust.md, 'Without cargo', in a folder of links, where they may leave what they make.
+without_cargo() {
+    local lines
+    lines=$(sed -n '/^## Without cargo/,$s/^\$ //p' docs/rust.md) && mkdir "$work/plain" &&
+        ln -s "$PWD/bindings" "$PWD/target" "$work/plain" && (cd "$work/plain" && sh -ec "$lines")
 }
 
 minor=$(cargo --version 2>/dev/null | sed -n 's/^cargo 1\.\([0-9]*\)\..*/\1/p')
 if [ "${minor:-0}" -ge 85 ]; then
     export CARGO_TARGET_DIR=$work/cargo RUSTFLAGS='-D warnings' RUSTDOCFLAGS='-D warnings'
-    count=$((count + 2))
+    count=$((count + 3))
+    ran='word 4501D820, done 1, lane 0 is 127'
     prints rust-crate '' crate_tests
-    prints rust-project 'word 4501D820, done 1, lane 0 is 127' new_project
+    prints rust-project "$ran" new_project
+    prints rust-without-cargo "$ran" without_cargo
 else
     echo 'capi: not run: the Rust crate: its edition, 2024, needs cargo 1.85 or later' >&2
 fi

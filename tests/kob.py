@@ -24,6 +24,7 @@ BUILT = ROOT / "target"
 PATIENCE = 60  # seconds in which a command must end by itself
 BUILDING = 900  # seconds in which the kit must have built what the gate has not
 NOBODY = 65534
+SIGNALS = signal.SIGINT, signal.SIGTERM, signal.SIGHUP, signal.SIGQUIT
 
 WORDS = bytes.fromhex("00D8014500F0002F00000000")
 LISTING = b"4501D800 SQCADD\n2F00F000 RESERVED\n00000000 OUTSIDE\nTOTAL 3\n"
@@ -160,12 +161,16 @@ def status_of_a_run(tree):
 
 
 def status_of_usage(tree):
-    for words in ((), ("lists",), ("list", "words.bin"), ("run", "a", "b"), ("install",), ("",)):
+    one_too_many = [(word, "a", "b") for word in ("list", "run", "install", "staticlib", "dist", "test", "version", "help")]
+    for words in ((), ("",), ("lists",), ("list", "words.bin"), ("install",), ("install", ""), ("install", "-x"), *one_too_many):
         status, wrote, said = tree.run(*words)
         check((status, wrote) == (2, b"") and b"kob help" in said, words, status, wrote, said)
     for word in ("help", "--help", "-h"):
         status, wrote, said = tree.run(word)
         check((status, said) == (0, b"") and wrote.startswith(b"usage: kob list"), word, status, said)
+    (tree.root / "include/kobbeskuim.h").unlink()
+    status, wrote, said = tree.run("version")
+    check((status, wrote) == (1, b"") and b"cannot read the version" in said, status, wrote, said)
     check(not tree.calls(), "it called rt")
 
 
@@ -213,6 +218,9 @@ def builds_once(tree):
         status, wrote, said = tree.run("staticlib")
         check((status, wrote) == (0, b"%s\n" % bytes(archive)), status, wrote, said)
         check(tree.calls() == built, "staticlib called rt otherwise than", built)
+    archive.unlink()
+    tree.run("staticlib")
+    check(archive.exists() and tree.calls() == library, "an archive that was removed was not built again")
     later = time.time() + 2
     os.utime(tree.root / "crates/codec/src/lib.rt", (later, later))
     tree.run("staticlib")
@@ -227,7 +235,7 @@ def fails_to_build(tree):
     tree.fresh()
     bare = tree.work / "bare"
     bare.mkdir()
-    for tool in ("sh", "flock"):
+    for tool in ("sh", "flock", "setsid"):
         (bare / tool).symlink_to(shutil.which(tool))
     expect(tree.run("list", rt={"PATH": str(bare)}), 1, b"", b"kob: cannot build: there is no rt on the PATH\n")
 
@@ -261,7 +269,7 @@ def alive(number):
 
 
 def interrupted(tree):
-    for hit, number in ((os.killpg, signal.SIGINT), (os.kill, signal.SIGINT), (os.kill, signal.SIGTERM), (os.kill, signal.SIGHUP)):
+    for hit, number in ((os.killpg, signal.SIGINT), *((os.kill, each) for each in SIGNALS)):
         tree.fresh()
         process = tree.start("list", rt={"RT_SECONDS": "600"})
         child = working(tree, process)
@@ -272,12 +280,20 @@ def interrupted(tree):
         check(b"waiting" not in tree.lists(), "a retry has to wait")
 
 
-def interrupted_while_another_waits(tree):
-    builder = tree.start("list", rt={"RT_SECONDS": "600"})
-    working(tree, builder)
+def waiting(tree):
     waiter = tree.start("list", stdin=subprocess.PIPE)
     while b"waiting" not in waiter.stderr.readline():
         check(waiter.poll() is None, "it does not wait")
+    return waiter
+
+
+def interrupted_while_another_waits(tree):
+    builder = tree.start("list", rt={"RT_SECONDS": "600"})
+    working(tree, builder)
+    given_up = waiting(tree)
+    given_up.terminate()
+    check(given_up.wait(PATIENCE) == -signal.SIGTERM and builder.poll() is None, "who waits ends by itself")
+    waiter = waiting(tree)
     began = time.monotonic()
     builder.terminate()
     builder.communicate(timeout=PATIENCE)
@@ -332,11 +348,17 @@ def links(tree):
     (tree.elsewhere / "two").symlink_to(tree.elsewhere / "one")
     for name in ("one", "two"):
         tree.lists(kob=tree.elsewhere / name)
+    # A relative link in a folder that is itself a link: its .. is not the one that the path spells.
+    (tree.work / "deep/er/bin").mkdir(parents=True)
+    (tree.work / "deep/er/bin/kob").symlink_to("../../../a tree/kob")
+    (tree.elsewhere / "bin").symlink_to(tree.work / "deep/er/bin")
+    status, wrote, said = tree.run("staticlib", kob=tree.elsewhere / "bin/kob")
+    check((status, wrote) == (0, b"%s/target/staticlib/libkobbeskuim.a\n" % bytes(tree.root)), status, wrote, said)
     shutil.copy(tree.kob, tree.elsewhere / "copy")
     status, wrote, said = tree.run("list", kob=tree.elsewhere / "copy")
     check((status, wrote) == (1, b"") and b"a link to kob works" in said, status, said)
     made = sorted(path.name for path in tree.elsewhere.iterdir())
-    check(made == ["copy", "one", "two"], "beside the link there are", made)
+    check(made == ["bin", "copy", "one", "two"], "beside the link there are", made)
 
 
 def command(*words, timeout=PATIENCE, **more):
@@ -382,13 +404,20 @@ def header_version():
 def installs(tree):
     version = header_version()
     prefix = tree.work / "a prefix"
-    status, _, said = tree.run("install", str(prefix))
-    check(status == 0, "install ended with", status, said)
+    theirs = prefix / "share/kobbeskuim/target"  # a folder that is not ours
+    theirs.mkdir(parents=True)
+    status, _, said = tree.run("install", str(prefix), preexec_fn=lambda: os.umask(0o077))
+    check(status == 0 and theirs.is_dir(), "install ended with", status, said)
+    shut = [path for path in prefix.rglob("*") if path.stat().st_mode & 0o444 != 0o444]
+    check(not shut, "not for all to read:", shut)
     pc = (prefix / "lib/pkgconfig/kobbeskuim.pc").read_text()
     check("prefix=" + str(prefix).replace(" ", "\\ ") in pc, "the .pc has", pc)
-    for name, why in (("a$prefix", b"no .pc can name"), ("../a tree", b"in the checkout itself")):
+    (tree.work / "link").symlink_to(tree.root)
+    unnamed = [(name, b"no .pc can name") for name in ("blank ", *(f"a{sign}prefix" for sign in "\\$#\"'`()\t\n"))]
+    for name, why in (*unnamed, *((name, b"in the checkout itself") for name in ("../a tree", "../link"))):
         status, wrote, said = tree.run("install", name)
         check((status, wrote) == (1, b"") and why in said, "install in", name, "ended with", status, said)
+    check(not list(tree.elsewhere.iterdir()), "a refused folder was made")
     tree.root.rename(tree.work / "away")
     installed(tree, prefix, version)
     (tree.work / "away").rename(tree.root)
@@ -421,12 +450,12 @@ SCENARIOS = (
 
 
 def main():
-    for number in (signal.SIGINT, signal.SIGHUP):  # who is started in the background ignores them, and so would kob
+    for number in SIGNALS:  # who is started in the background ignores some, and so would kob
         signal.signal(number, signal.SIG_DFL)
     failed = 0
     with tempfile.TemporaryDirectory() as work:
         for scenario in SCENARIOS:
-            own = Path(work) / scenario.__name__
+            own = Path(work).resolve() / scenario.__name__
             own.mkdir()
             os.chmod(work, 0o755)
             try:
