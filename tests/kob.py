@@ -7,6 +7,7 @@ It tries a copy of the checkout, in a folder with a space in its name, with a st
 out what the gate has built (target/bin, target/staticlib); and, with the kit's rt, the tar that 'kob dist' makes.
 """
 
+import itertools
 import os
 import re
 import shutil
@@ -35,6 +36,7 @@ UNREAD = b"kob list: the input could not be read\n"
 RT = """#!/bin/sh
 echo "$*" >>"$RT_LOG"
 [ "$1" = version ] && echo 'a stand-in' && exit
+[ -z "${RT_DEAF-}" ] || trap '' INT TERM HUP QUIT
 sleep "${RT_SECONDS-0}" &
 echo $! >"$RT_LOG.sleeper"
 wait $!
@@ -269,9 +271,11 @@ def alive(number):
 
 
 def interrupted(tree):
-    for hit, number in ((os.killpg, signal.SIGINT), *((os.kill, each) for each in SIGNALS)):
+    """Also where rt misses the signal, as a child can that is just being started."""
+    hits = [(os.killpg, signal.SIGINT), *((os.kill, number) for number in SIGNALS)]
+    for (hit, number), deaf in itertools.product(hits, ("", "1")):
         tree.fresh()
-        process = tree.start("list", rt={"RT_SECONDS": "600"})
+        process = tree.start("list", rt={"RT_SECONDS": "600", "RT_DEAF": deaf})
         child = working(tree, process)
         hit(process.pid, number)
         _, said = process.communicate(timeout=PATIENCE)
@@ -404,12 +408,15 @@ def header_version():
 def installs(tree):
     version = header_version()
     prefix = tree.work / "a prefix"
-    theirs = prefix / "share/kobbeskuim/target"  # a folder that is not ours
-    theirs.mkdir(parents=True)
+    (tree.root / "docs/list.md").chmod(0o600)
     status, _, said = tree.run("install", str(prefix), preexec_fn=lambda: os.umask(0o077))
-    check(status == 0 and theirs.is_dir(), "install ended with", status, said)
-    shut = [path for path in prefix.rglob("*") if path.stat().st_mode & 0o444 != 0o444]
+    check(status == 0, "install ended with", status, said)
+    shut = [path for path in (prefix, *prefix.rglob("*")) if path.stat().st_mode & 0o444 != 0o444]
     check(not shut, "not for all to read:", shut)
+    theirs = prefix / "share/kobbeskuim/target"  # a folder that is not ours
+    theirs.mkdir()
+    status, _, said = tree.run("install", str(prefix))
+    check(status == 0 and theirs.is_dir(), "a second install ended with", status, said)
     pc = (prefix / "lib/pkgconfig/kobbeskuim.pc").read_text()
     check("prefix=" + str(prefix).replace(" ", "\\ ") in pc, "the .pc has", pc)
     (tree.work / "link").symlink_to(tree.root)
@@ -421,6 +428,15 @@ def installs(tree):
     tree.root.rename(tree.work / "away")
     installed(tree, prefix, version)
     (tree.work / "away").rename(tree.root)
+
+
+def installs_under_one_lock(tree):
+    installing = tree.start("install", str(tree.work / "prefix"), rt={"RT_SECONDS": "0.6"})
+    working(tree, installing)
+    waiter = waiting(tree)
+    check(waiter.communicate(WORDS, timeout=PATIENCE)[0] == LISTING, "who waited does not list")
+    check(installing.wait(0.5) == 0, "install ended with", installing.returncode)
+    installing.communicate()
 
 
 def makes_a_tar(tree):
@@ -445,7 +461,7 @@ def makes_a_tar(tree):
 SCENARIOS = (
     status_of_a_listing, status_of_a_closed_pipe, status_of_what_cannot_start, status_of_a_run, status_of_usage,
     statuses_by_make, starts_in_5_ms, builds_once, fails_to_build, two_at_once, interrupted,
-    interrupted_while_another_waits, read_only_tree, pages, links, installs, makes_a_tar,
+    interrupted_while_another_waits, read_only_tree, pages, links, installs, installs_under_one_lock, makes_a_tar,
 )  # fmt: skip
 
 
