@@ -200,10 +200,16 @@ def fastest(command, *arguments):
 
 
 def starts_in_5_ms(tree):
-    """Or, where the machine is slow or busy, in four times what a shell takes that does nothing."""
+    """Or, where the machine is slow, in four times what a shell takes that does nothing. A busy spell only adds to a time
+    and can last for a whole batch, so the best of several batches counts."""
     tree.lists()
-    listing, shell = fastest(tree.lists), fastest(command, "sh", "-c", ":")
-    check(listing < max(5, 4 * shell), f"it took {listing:.1f} ms, and an empty shell {shell:.1f}")
+    listing = shell = float("inf")
+    for _ in range(10):
+        listing, shell = min(listing, fastest(tree.lists)), min(shell, fastest(command, "sh", "-c", ":"))
+        if listing < max(5, 4 * shell):
+            return
+        time.sleep(1)
+    check(False, f"it took {listing:.1f} ms, and an empty shell {shell:.1f}")
 
 
 # ---- building
