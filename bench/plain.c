@@ -1,5 +1,5 @@
-/* A plain C implementation of document 01's run: the yardstick for the library's speed, and one of
- * the two programs that the harness compares it with.
+/* A plain C implementation of document 01's run and of request A9's replay: the yardstick for the
+ * library's speed, and one of the two programs that the harness compares it with.
  *
  * Written for speed as portable C goes: a switch over the words, and a loop for each family, width
  * and rotation that the compiler can turn into vector code; no intrinsics. Elements are read and
@@ -13,6 +13,9 @@ enum { CADD, SQCADD, CMLA, CMLA_I, SQRDCMLAH, SQRDCMLAH_I, SQRDMLAH, SQRDMLSH };
 enum { B, H, S, D };
 enum { SCALAR, VECTOR_64, VECTOR_128 };
 enum { DONE, BAD_LENGTH, BAD_SIZE, TOO_LONG, OUTSIDE, RESERVED, NOT_POWER_OF_TWO = 11 };
+enum { BAD_CONTENTS = 15, BAD_TOTAL, BAD_FLAG, NO_CASE = 22 };
+enum { AGREES = 1, FILE_DIFFERS, FLAG_DIFFERS }; /* verdicts; OUTSIDE, RESERVED and BAD_FLAG are too */
+enum { MOST_WORDS = 4096, MOST_FILE = 8192, MOST_CASES = 1024, MOST_TRACE = 65536 };
 
 struct op {
     unsigned family, size, form, turns, d, n, m, index;
@@ -358,7 +361,7 @@ uint64_t plain_run(size_t l, uint8_t *file, size_t file_len, bool qc, const uint
     unsigned refused = plain_check(l, file_len);
     if (refused != DONE)
         return answer(refused, qc, 0);
-    if (words_len > 4096)
+    if (words_len > MOST_WORDS)
         return answer(TOO_LONG, qc, 0);
     struct op op = {0};
     for (size_t done = 0; done < words_len; done++) {
@@ -368,4 +371,66 @@ uint64_t plain_run(size_t l, uint8_t *file, size_t file_len, bool qc, const uint
         qc = step(&op, file, l / 8, qc);
     }
     return answer(DONE, qc, words_len);
+}
+
+/* ---- the replay of a recorded trace */
+
+static inline uint32_t number_at(const uint8_t *bytes)
+{
+    uint32_t x;
+    memcpy(&x, bytes, sizeof x);
+    return x;
+}
+
+static size_t first_difference(const uint8_t *a, const uint8_t *b, size_t size)
+{
+    if (!memcmp(a, b, size))
+        return size;
+    size_t place = 0;
+    while (a[place] == b[place])
+        place++;
+    return place;
+}
+
+static uint64_t verdict(unsigned kind, size_t place)
+{
+    return (uint64_t)kind << 8 | (uint64_t)place << 16;
+}
+
+/* A body is QC before, file before, words, QC after, file after. */
+static uint64_t plain_case(const uint8_t *body, size_t l, size_t words_len)
+{
+    const uint8_t *words = body + 4 + 4 * l, *flag = words + 4 * words_len;
+    uint32_t before = number_at(body), after = number_at(flag);
+    if (before > 1 || after > 1)
+        return verdict(BAD_FLAG, 0);
+    uint8_t file[MOST_FILE];
+    memcpy(file, body + 4, 4 * l);
+    uint64_t ran = plain_run(l, file, 4 * l, before, (const uint32_t *)words, words_len);
+    if ((ran & 0xFF) != DONE)
+        return verdict(ran & 0xFF, ran >> 16);
+    size_t place = first_difference(file, flag + 4, 4 * l);
+    if (place < 4 * l)
+        return verdict(FILE_DIFFERS, place);
+    return verdict((ran >> 8 & 1) == after ? AGREES : FLAG_DIFFERS, 0);
+}
+
+uint64_t plain_replay(const uint8_t *trace, size_t length, size_t n)
+{
+    size_t cases = length < 4 ? 0 : number_at(trace), due = 4 + 12 * cases;
+    if (cases == 0 || cases > MOST_CASES || length < due)
+        return BAD_CONTENTS;
+    for (size_t k = 0; k < cases; k++) {
+        const uint8_t *entry = trace + 4 + 12 * k;
+        size_t l = number_at(entry), words_len = number_at(entry + 4);
+        if (plain_check(l, 4 * l) != DONE || words_len > MOST_WORDS || number_at(entry + 8) != due)
+            return BAD_CONTENTS;
+        due += 8 + 8 * l + 4 * words_len;
+    }
+    if (length > MOST_TRACE || length != due)
+        return BAD_TOTAL;
+    if (n >= cases)
+        return NO_CASE;
+    const uint8_t *entry = trace + 4 + 12 * n;
+    return plain_case(trace + number_at(entry + 8), number_at(entry), number_at(entry + 4));
 }

@@ -16,4 +16,8 @@ uint64_t plain_run(size_t l, uint8_t *file, size_t file_len, bool qc, const uint
 /* 0 with the eight fields, 4 or 5 with none. */
 uint32_t plain_decode(uint32_t word, uint32_t fields[8]);
 
+/* The number in bits 0 to 7, the kind of verdict in bits 8 to 15, the place in bits 16 to 31. The words are
+ * run where they stand, so the trace has to be aligned for them. */
+uint64_t plain_replay(const uint8_t *trace, size_t length, size_t n);
+
 #endif

@@ -12,7 +12,7 @@
  * No call keeps state, so threads may call at the same time.
  *
  * Link with libkobbeskuim.a or libkobbeskuim.so, which './kob staticlib' builds
- * (x86-64 Linux). Of the C library its code needs memset alone.
+ * (x86-64 Linux). Of the C library its code needs memcpy and memset alone.
  */
 #ifndef KOBBESKUIM_H
 #define KOBBESKUIM_H
@@ -29,9 +29,9 @@ extern "C" {
 #define KOB_CAST(type, value) ((type)(value))
 #endif
 
-#define KOB_VERSION "0.2.0"
+#define KOB_VERSION "0.3.0"
 #define KOB_VERSION_MAJOR 0
-#define KOB_VERSION_MINOR 2
+#define KOB_VERSION_MINOR 3
 #define KOB_VERSION_PATCH 0
 
 /* ---- limits */
@@ -56,6 +56,10 @@ extern "C" {
 /* The most words that a listing lists; one more gives its LIMIT line. */
 #define KOB_LIST_WORDS_MAX 1048576
 
+/* The most bytes of a trace, 64 KiB, and the most cases that its contents may name. */
+#define KOB_TRACE_MAX 65536
+#define KOB_CASES_MAX 1024
+
 /* ---- numbers answered */
 
 #define KOB_DONE 0
@@ -70,6 +74,10 @@ extern "C" {
 #define KOB_REGISTER_LIMIT 9
 #define KOB_INDEX_LIMIT 10
 #define KOB_NOT_POWER_OF_TWO 11 /* but a multiple of 128 from 128 to 2,048 */
+#define KOB_BAD_CONTENTS 15
+#define KOB_BAD_TOTAL 16
+#define KOB_BAD_FLAG 17 /* a verdict, not a refusal */
+#define KOB_NO_CASE 22
 
 /* Numbers of these calls alone, above every number of the library. */
 #define KOB_BAD_FIELDS 32
@@ -90,6 +98,10 @@ static inline const char *kob_text(unsigned number) {
     case KOB_REGISTER_LIMIT: return "register field above its limit";
     case KOB_INDEX_LIMIT: return "index above its limit";
     case KOB_NOT_POWER_OF_TWO: return "length not a power of two";
+    case KOB_BAD_CONTENTS: return "contents cut short or not allowed";
+    case KOB_BAD_TOTAL: return "trace above 64 KiB or not as long as its contents say";
+    case KOB_BAD_FLAG: return "flag neither 0 nor 1";
+    case KOB_NO_CASE: return "case not below the number of cases";
     case KOB_BAD_FIELDS: return "fields not 8 numbers";
     case KOB_NO_OPERATION: return "fields that name no operation";
     default: return "no number of these calls";
@@ -207,6 +219,56 @@ static inline uint32_t kob_encode_word(uint64_t answer) { return KOB_CAST(uint32
  * KOB_LIST_ROOM(length) bytes.
  */
 uint64_t kob_list(const uint8_t *bytes, size_t length, uint8_t *out, size_t room);
+
+/* ---- replaying a recorder's trace */
+
+/* A trace is a table of contents and then the bodies, in little-endian 4-byte numbers.
+ *
+ * The contents are the number of cases, 1 to KOB_CASES_MAX, and then for each case its
+ * length L in bits, its word count, 0 to KOB_WORDS_MAX, and its body's start in bytes
+ * from the first byte of the trace. The bodies follow in order with no gap: the first
+ * starts at 4 + 12 x cases, each other where the one before it ends.
+ *
+ * A body is QC before, the file before, the words, QC after and the file after:
+ * 8 + 8 x L + 4 x words bytes. A file is 4 x L bytes, as kob_run takes it. */
+
+/* The kinds of verdict. KOB_OUTSIDE, KOB_RESERVED and KOB_BAD_FLAG are kinds too, and
+ * of these kob_text has the text. */
+#define KOB_NO_VERDICT 0 /* on a refusal */
+#define KOB_AGREES 1
+#define KOB_FILE_DIFFERS 2
+#define KOB_FLAG_DIFFERS 3
+
+/*
+ * Replays case n, counted from 0, of the trace: runs its words on its file and flag
+ * before, and compares what the run leaves with its file and flag after. The trace is
+ * not written to, and it may stand at any address.
+ *
+ * The number is the first of
+ *   KOB_BAD_CONTENTS: there are fewer than 4 bytes, or fewer than 4 + 12 x cases; or
+ *     the number of cases, a length, a word count or a start is not one of those above;
+ *   KOB_BAD_TOTAL: the trace is longer than KOB_TRACE_MAX, or the last body does not
+ *     end where the trace ends;
+ *   KOB_NO_CASE: n is not below the number of cases.
+ * With these there is no verdict, and the kind and the place are 0. Or the number is
+ * KOB_DONE, and the kind is the first of
+ *   KOB_BAD_FLAG: QC before or QC after is neither 0 nor 1;
+ *   KOB_OUTSIDE, KOB_RESERVED: the run stops at that word, and nothing is compared.
+ *     The place is the word's, counted from 0;
+ *   KOB_FILE_DIFFERS: the file that the run leaves is not the file after. The place is
+ *     the first byte that differs, counted from 0 in the file: byte place % (L/8) of
+ *     register place / (L/8);
+ *   KOB_FLAG_DIFFERS: the files agree, and the flag that the run leaves is not QC after;
+ *   KOB_AGREES.
+ * Where no place is named it is 0. What the body of another case holds does not count.
+ */
+uint64_t kob_replay(const uint8_t *trace, size_t length, size_t n);
+
+/* The answer's parts: the number in bits 0 to 7, the kind in bits 8 to 15, the place
+ * (at most 8,191) in bits 16 to 31; the other bits are 0. */
+static inline unsigned kob_replay_number(uint64_t answer) { return KOB_CAST(unsigned, answer & 0xFF); }
+static inline unsigned kob_replay_kind(uint64_t answer) { return KOB_CAST(unsigned, answer >> 8 & 0xFF); }
+static inline unsigned kob_replay_place(uint64_t answer) { return KOB_CAST(unsigned, answer >> 16 & 0xFFFF); }
 
 #ifdef __cplusplus
 }

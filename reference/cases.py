@@ -1,6 +1,6 @@
 #!/usr/bin/env python3
-"""Writes the stored cases of the programs cases, codec_cases, kernel_cases, list and execute, and what
-they must print.
+"""Writes the stored cases of the programs cases, codec_cases, kernel_cases, replay_cases, list, execute and
+replay_files, and what they must print.
 
     cases.py [ROOT]            write them below ROOT (default: the repository that has this file)
     cases.py --check [ROOT]    fail if what is stored is not what would be written
@@ -18,8 +18,12 @@ from random import Random
 sys.dont_write_bytecode = True  # the repository stays as it was
 import kernel_cases
 import model
+import replay_cases
 import report
 import run_cases
+import store
+import traces
+import verdicts
 from model import ELEMENT, INDEXED, TABLE, H, Operation, S
 
 ROOT = Path(__file__).resolve().parent.parent
@@ -170,6 +174,7 @@ def files():
     yield from stored("codec_cases", cases)
     yield from stored("kernel_cases", list(dict.fromkeys(kernel_cases.cases(Source(4)))))
     yield from stored("cases", list(dict.fromkeys(run_cases.cases(Source(5)))))
+    yield from stored("replay_cases", list(replay_cases.cases(Source(6))))  # a put may come twice
 
     source = Source(3)
     listed = [word for word, _ in model.P1_TO_P7] + list(source.mix(2000))
@@ -181,23 +186,10 @@ def files():
     yield "crates/execute/stdin", text
     yield "crates/execute/stdout", report.report(text)
 
-
-def main(arguments):
-    check = arguments[:1] == ["--check"]
-    rest = arguments[1:] if check else arguments
-    root = Path(rest[0]) if rest else ROOT
-    wrong = 0
-    for name, content in files():
-        path = root / name
-        if not check:
-            path.parent.mkdir(parents=True, exist_ok=True)
-            path.write_bytes(content)
-        elif not path.is_file() or path.read_bytes() != content:
-            print(f"cases: {name} is not what the model gives")
-            wrong += 1
-    print(f"cases: {wrong} files differ" if check else "cases: written")
-    return 1 if wrong else 0
+    trace = traces.differ()
+    yield "crates/replay_files/stdin", trace
+    yield "crates/replay_files/stdout", verdicts.lines("", trace)  # the gate hands it no name
 
 
 if __name__ == "__main__":
-    sys.exit(main(sys.argv[1:]))
+    sys.exit(store.main("cases", files(), ROOT, sys.argv[1:]))

@@ -11,10 +11,12 @@ count=0
 suite=capi
 . tests/prints.sh
 
+arguments=() # of the programs that are run
+
 built() { # NAME COMMAND..
     local program=$work/$1
     shift
-    "$@" -o "$program" >&2 && "$program"
+    "$@" -o "$program" >&2 && "$program" "${arguments[@]}"
 }
 
 # example NAME EXPECTED COMMAND..: the command builds $work/NAME, which is then run
@@ -43,7 +45,8 @@ run, neither: 1 length not a multiple of 128 from 128 to 2,048
 decode, no fields: 32 fields not 8 numbers
 encode, no fields: 32 fields not 8 numbers
 list, no bytes: TOTAL 0
-list, no room: refused'
+list, no room: refused
+replay, no trace: 15 contents cut short or not allowed'
 vectors="run: 0 done
 lane 0 is 127
 $empty
@@ -56,6 +59,13 @@ for standard in c++11 c++20; do
     example "vectors-g++-$standard" "$vectors" g++ $stricter $from
     command -v clang++ >/dev/null && example "vectors-clang++-$standard" "$vectors" clang++ $everything $from
 done
+
+arguments=(examples/traces/differ.trace)
+replayed=$(shown docs/c.md "./replay ${arguments[*]}")
+example replay-c "$replayed" gcc -std=c99 $strict -Iinclude examples/c/replay.c "$archive"
+example replay-shared "$replayed" gcc -std=c99 $strict -Iinclude examples/c/replay.c -Ltarget/sharedlib -lkobbeskuim -Wl,-rpath,"$PWD/target/sharedlib"
+example replay-c++ "$replayed" g++ -std=c++11 $strict -Iinclude -x c++ examples/c/replay.c -x none "$archive"
+arguments=()
 
 # ---- Rust
 
@@ -100,9 +110,9 @@ fi
 
 # ---- what the archive asks for beside what it has
 
-asked=$(nm "$archive" | awk '$1 == "U" { asked[$2] } NF == 3 { has[$3] } END { for (s in asked) if (!(s in has)) print s }')
-if [ "$asked" != memset ]; then
-    printf 'capi: the archive asks for\n%s\nand not for memset alone\n' "$asked" >&2
+asked=$(nm "$archive" | awk '$1 == "U" { asked[$2] } NF == 3 { has[$3] } END { for (s in asked) if (!(s in has)) print s }' | sort)
+if [ "$asked" != $'memcpy\nmemset' ]; then
+    printf 'capi: the archive asks for\n%s\nand not for memcpy and memset alone\n' "$asked" >&2
     failed=$((failed + 1))
 fi
 

@@ -18,7 +18,7 @@
 #include "kobbeskuim.h"
 #include "plain.h"
 
-enum { MOST_WORDS = 4096, MOST_FILE = 4 * 2176, TOLD = 10 };
+enum { MOST_WORDS = 4096, MOST_FILE = 4 * 2176, MOST_TRACE = 65536, TOLD = 10 };
 
 static uint64_t cases, differences;
 
@@ -292,6 +292,137 @@ static void register_case(void)
         differ("register", l, size, 0, NULL, 0, found, wanted);
 }
 
+/* ---- traces */
+
+enum { LEAST_BODY = 8 + 8 * 128, SPARE = 8, ROOM = MOST_TRACE + 16384 }; /* room for traces that are too long */
+
+static struct area trace_area;
+static _Alignas(4) uint8_t trace[ROOM];
+
+static uint32_t number_at(size_t at)
+{
+    uint32_t n;
+    memcpy(&n, trace + at, 4);
+    return n;
+}
+
+static void put_number(size_t at, uint32_t n)
+{
+    memcpy(trace + at, &n, 4);
+}
+
+/* A body that agrees, from a place on; where it ends. */
+static size_t record_body(size_t at, size_t l, const uint32_t *run, size_t count)
+{
+    bool qc = one_in(2);
+    fill(before, 4 * l);
+    memcpy(wanted_file, before, 4 * l);
+    uint64_t ran = plain_run(l, wanted_file, 4 * l, qc, run, count);
+    put_number(at, qc);
+    memcpy(trace + at + 4, before, 4 * l);
+    memcpy(trace + at + 4 + 4 * l, run, 4 * count);
+    put_number(at + 4 + 4 * l + 4 * count, kob_run_flag(ran));
+    memcpy(trace + at + 8 + 4 * l + 4 * count, wanted_file, 4 * l);
+    return at + 8 + 8 * l + 4 * count;
+}
+
+/* A trace that agrees; its length. Most have a few cases, some as many as there is room for; some are too
+ * long, and some fill 64 KiB to the last byte, or have one number more. */
+static size_t record_trace(void)
+{
+    size_t full = one_in(16) ? MOST_TRACE + 4 * below(2) : 0;
+    size_t listed = full ? 47 + below(16) : one_in(20) ? 1 + below(62) : 1 + below(4);
+    size_t most = full ? full : one_in(8) ? ROOM - SPARE : MOST_TRACE, at = 4 + 12 * listed;
+    put_number(0, (uint32_t)listed);
+    for (size_t k = 0; k < listed; k++) {
+        size_t l = legal_length(), count = program(words, ROWS);
+        size_t least = LEAST_BODY * (listed - k - 1); /* what the other bodies take */
+        if (at + 8 + 8 * l + 4 * count + least > most || (full && least == 0))
+            l = 128, count = 0;
+        for (; full && least == 0 && at + LEAST_BODY + 4 * count < full; count++)
+            words[count] = good_word(ROWS);
+        put_number(4 + 12 * k, (uint32_t)l);
+        put_number(8 + 12 * k, (uint32_t)count);
+        put_number(12 + 12 * k, (uint32_t)at);
+        at = record_body(at, l, words, count);
+    }
+    return at;
+}
+
+/* A number of the contents: one off, or at an edge. */
+static void damage_contents(size_t listed)
+{
+    static const uint32_t some[] = {0, 1, 127, 128, 384, 1024, 1025, 2048, 4096, 4097, 65536, 0xFFFFFFFF};
+    size_t at = 4 * (size_t)below(1 + 3 * (uint32_t)listed);
+    switch (below(3)) {
+    case 0: put_number(at, some[below(sizeof some / sizeof *some)]); break;
+    case 1: put_number(at, number_at(at) + 4 * (below(3) - 1)); break;
+    default: put_number(at, number_at(at) + 1 - 2 * below(2)); break;
+    }
+}
+
+/* A flag, a word or a byte of the file after. */
+static void damage_body(size_t entry)
+{
+    size_t l = number_at(entry), count = number_at(entry + 4), at = number_at(entry + 8);
+    size_t first = at + 4 + 4 * l, flag = first + 4 * count;
+    switch (below(4)) {
+    case 0: put_number(one_in(2) ? at : flag, one_in(4) ? (uint32_t)next() : below(3)); break;
+    case 1: trace[flag + 4 + (one_in(4) ? 4 * l - 1 : below(4 * (uint32_t)l))] ^= 1u << below(8); break;
+    case 2: trace[flag + 4 + below(4)] ^= 1u << below(8); break;
+    default:
+        if (count > 0)
+            put_number(first + 4 * (size_t)below((uint32_t)count), one_in(2) ? bad_word() : good_word(ROWS));
+    }
+}
+
+/* Damages a body, a number of the contents, any byte or the length. Bodies come first, while the contents
+ * still tell where they are. */
+static size_t damage(size_t length)
+{
+    size_t listed = number_at(0);
+    while (one_in(2))
+        damage_body(4 + 12 * (size_t)below((uint32_t)listed));
+    if (one_in(4))
+        damage_contents(listed);
+    if (one_in(4))
+        trace[below((uint32_t)length)] ^= 1u << below(8);
+    switch (below(12)) {
+    case 0: return below((uint32_t)length + 1);
+    case 1: return length - 1 - below(8);
+    case 2: return length + 1 + below(SPARE);
+    case 3: return below(4 + 12 * (uint32_t)listed + 2);
+    default: return length;
+    }
+}
+
+static void differ_trace(const char *what, size_t length, size_t n, uint64_t found, uint64_t wanted)
+{
+    if (differences++ < TOLD)
+        fprintf(stderr, "harness: %s, case %" PRIu64 ": a trace of %zu bytes, its case %zu: %" PRIX64
+                ", not %" PRIX64 "\n", what, cases, length, n, found, wanted);
+}
+
+/* A trace, of which some cases are asked for. */
+static void trace_case(void)
+{
+    size_t length = damage(record_trace()), listed = number_at(0);
+    size_t first = listed > 4 ? below((uint32_t)listed) : 0;
+    uint8_t *lent = lend(trace_area, length, 1);
+    memcpy(lent, trace, length);
+    for (size_t n = first; n < first + 4; n++) {
+        size_t asked = one_in(20) ? next() : n;
+        uint64_t found = kob_replay(lent, length, asked), wanted = plain_replay(trace, length, asked);
+        cases++;
+        if (found != wanted)
+            differ_trace("replay", length, asked, found, wanted);
+    }
+    bool same = !memcmp(lent, trace, length);
+    same &= kept(trace_area, lent, length);
+    if (!same)
+        differ_trace("the trace, or bytes outside of it", length, first, 0, 0);
+}
+
 /* ---- demand 3, on the archive alone */
 
 /* The first or a later part of every register, as a file of its own. */
@@ -354,13 +485,16 @@ static void fuzz(double seconds)
 {
     file_area = area(MOST_FILE);
     word_area = area(sizeof words);
+    trace_area = area(ROOM);
     double end = now() + seconds;
-    uint64_t runs = 0, lengths = 0, segments = 0, calls = 0;
+    uint64_t runs = 0, traces = 0, lengths = 0, segments = 0, calls = 0;
     while (now() < end) {
         uint64_t start = cases;
         for (int k = 0; k < 16; k++)
             run_case();
         runs += cases - start, start = cases;
+        trace_case();
+        traces += cases - start, start = cases;
         for (int k = 0; k < 4; k++)
             length_case();
         lengths += cases - start, start = cases;
@@ -373,8 +507,9 @@ static void fuzz(double seconds)
         }
         calls += cases - start;
     }
-    fprintf(stderr, "harness: %" PRIu64 " runs against plain C; %" PRIu64 " pairs of lengths; %" PRIu64
-            " segments alone; %" PRIu64 " other calls\n", runs, lengths, segments, calls);
+    fprintf(stderr, "harness: %" PRIu64 " runs and %" PRIu64 " cases of traces against plain C; %" PRIu64
+            " pairs of lengths; %" PRIu64 " segments alone; %" PRIu64 " other calls\n",
+            runs, traces, lengths, segments, calls);
 }
 
 /* ---- answers for the model. Numbers are little-endian, as this machine's must be. */
@@ -402,47 +537,79 @@ static void *room(size_t bytes)
 
 /* A call is its kind and its numbers, then its lent parts; the answer is the number returned, as 8
  * bytes, and the lent part that can have changed. */
+
+static void answer_run(const uint64_t n[4]) /* L, flag, bytes, words */
+{
+    uint8_t *file = room(n[2]);
+    uint32_t *program = room(4 * n[3]);
+    take(file, n[2]);
+    take(program, 4 * n[3]);
+    uint64_t found = kob_run(n[0], file, n[2], n[1], program, n[3]);
+    give(&found, 8);
+    give(file, n[2]);
+    free(file);
+    free(program);
+}
+
+static void answer_replay(const uint64_t n[4]) /* bytes, case */
+{
+    uint8_t *bytes = room(n[0]);
+    take(bytes, n[0]);
+    uint64_t found = kob_replay(bytes, n[0], n[1]);
+    give(&found, 8);
+    free(bytes);
+}
+
+static void answer_decode(const uint64_t n[4]) /* the word, the fields' count */
+{
+    uint32_t *fields = room(4 * n[1]);
+    memset(fields, PATTERN, 4 * n[1]);
+    uint64_t found = kob_decode(n[0], fields, n[1]);
+    give(&found, 8);
+    give(fields, 4 * n[1]);
+    free(fields);
+}
+
+static void answer_encode(const uint64_t n[4]) /* the fields' count */
+{
+    uint32_t *fields = room(4 * n[0]);
+    take(fields, 4 * n[0]);
+    uint64_t found = kob_encode(fields, n[0]);
+    give(&found, 8);
+    free(fields);
+}
+
+static void answer_register(const uint64_t n[4]) /* L, bytes, register */
+{
+    uint64_t found = kob_register(n[0], n[1], n[2]);
+    give(&found, 8);
+}
+
+static void answer_list(const uint64_t n[4]) /* bytes, room for text */
+{
+    uint8_t *bytes = room(n[0]), *out = room(n[1]);
+    take(bytes, n[0]);
+    memset(out, PATTERN, n[1]);
+    uint64_t found = kob_list(bytes, n[0], out, n[1]);
+    give(&found, 8);
+    give(out, n[1]);
+    free(bytes);
+    free(out);
+}
+
 static void answer(void)
 {
     for (int kind; (kind = getchar()) != EOF;) {
-        uint64_t n[4], found;
+        uint64_t n[4];
         take(n, sizeof n);
-        if (kind == 'x') { /* run: L, flag, bytes, words */
-            uint8_t *file = room(n[2]);
-            uint32_t *program = room(4 * n[3]);
-            take(file, n[2]);
-            take(program, 4 * n[3]);
-            found = kob_run(n[0], file, n[2], n[1], program, n[3]);
-            give(&found, 8);
-            give(file, n[2]);
-            free(file);
-            free(program);
-        } else if (kind == 'd') { /* decode: the word, the fields' count */
-            uint32_t *fields = room(4 * n[1]);
-            memset(fields, PATTERN, 4 * n[1]);
-            found = kob_decode(n[0], fields, n[1]);
-            give(&found, 8);
-            give(fields, 4 * n[1]);
-            free(fields);
-        } else if (kind == 'e') { /* encode: the fields' count */
-            uint32_t *fields = room(4 * n[0]);
-            take(fields, 4 * n[0]);
-            found = kob_encode(fields, n[0]);
-            give(&found, 8);
-            free(fields);
-        } else if (kind == 'r') { /* register: L, bytes, register */
-            found = kob_register(n[0], n[1], n[2]);
-            give(&found, 8);
-        } else if (kind == 'l') { /* list: bytes, room for text */
-            uint8_t *bytes = room(n[0]), *out = room(n[1]);
-            take(bytes, n[0]);
-            memset(out, PATTERN, n[1]);
-            found = kob_list(bytes, n[0], out, n[1]);
-            give(&found, 8);
-            give(out, n[1]);
-            free(bytes);
-            free(out);
-        } else {
+        switch (kind) {
+        case 'x': answer_run(n); break;
+        case 't': answer_replay(n); break;
+        case 'd': answer_decode(n); break;
+        case 'e': answer_encode(n); break;
+        case 'r': answer_register(n); break;
+        case 'l': answer_list(n); break;
+        default:
             fprintf(stderr, "harness: no call of kind %d\n", kind);
             exit(2);
         }

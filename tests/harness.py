@@ -27,7 +27,9 @@ import execution
 import kernel_cases
 import lanes
 import model
+import replay
 import run_cases
+import traces
 from cases import Source
 from execution import MOST_WORDS, MULTIPLES
 from model import ADDS, ELEMENT, INDEXED, Operation
@@ -57,6 +59,12 @@ def run_case(length, file, flag, words):
     answer = ran.number | ran.flag << 8 | ran.done << 16
     asked = call(b"x", length, flag, len(file), len(words), data=file + packed(*words))
     return asked, struct.pack("<Q", answer) + ran.file
+
+
+def replay_case(trace, n):
+    number, kind, place, _ = replay.judge(trace, n)
+    asked = call(b"t", len(trace), n, data=trace)
+    return asked, struct.pack("<Q", number | kind << 8 | place << 16)
 
 
 def decode_case(word, count):
@@ -143,17 +151,47 @@ class Maker(run_cases.Maker):
 
     # -- one case of a kind
 
+    def words(self, count):
+        """Some words; every third program ends in the middle."""
+        words = [self.good() for _ in range(count)]
+        if self.source.below(3) == 0:
+            stop = self.outside() if self.source.below(2) else self.reserved()
+            words.insert(self.source.below(count + 1), stop)
+        return words
+
     def program(self):
-        """Some words; every third program ends in the middle, a few are long."""
+        """A program, a few of them long."""
         source = self.source
         length, count = self.length(), source.below(10)
         if source.below(400) == 0:
             length, count = 128, MOST_WORDS - source.below(3)
-        words = [self.good() for _ in range(count)]
-        if source.below(3) == 0:
-            stop = self.outside() if source.below(2) else self.reserved()
-            words.insert(source.below(count + 1), stop)
-        return run_case(length, self.file(4 * length), self.flag(), words)
+        return run_case(length, self.file(4 * length), self.flag(), self.words(count))
+
+    def replaying(self):
+        """A trace as the model records it, then damaged: a byte, a number, or its end."""
+        source = self.source
+        cases = []
+        for _ in range(1 + source.below(3)):
+            length = self.length()
+            cases.append(traces.Case(length, self.flag(), self.file(4 * length), self.words(source.below(20))))
+        trace = bytearray(traces.record(cases))
+        at = traces.places(trace, source.below(len(cases)))
+        start = source.choose((*range(0, 4 + 12 * len(cases), 4), at.flag_before, at.flag_after))
+        kind = source.below(7)
+        if kind == 0:
+            trace[source.below(len(trace))] ^= 1 << source.below(8)
+        elif kind == 1:
+            trace[start : start + 4] = packed(source.choose(NUMBERS))
+        elif kind == 2:
+            trace[start] = (trace[start] + source.choose((-4, -1, 1, 4))) % 256
+        elif kind == 3:
+            trace[source.choose(range(at.file_after, at.end))] ^= 1 << source.below(8)
+        elif kind == 4:
+            trace = (trace + b"\1")[: source.choose((start, at.end - 1, len(trace) - 4, len(trace) + 1))]
+        elif kind == 5:
+            trace[at.flag_after] ^= 1
+        n = source.below(len(cases)) if source.below(6) else source.choose((len(cases), 2**32, 2**64 - 1))
+        return replay_case(bytes(trace), n)
 
     def coinciding_word(self):
         """Any operation, its registers one in some way."""
@@ -224,7 +262,7 @@ class Maker(run_cases.Maker):
     def batch(self):
         """Every kind of case; those of the run more often, aimed ones most."""
         kinds = [self.program] * 5 + [self.coinciding_word] * 3 + [self.aimed_word] * 8 + [self.damaged]
-        kinds += [self.decoding, self.encoding, self.asking, self.text]
+        kinds += [self.replaying] * 3 + [self.decoding, self.encoding, self.asking, self.text]
         for _ in range(BATCH):
             kind = self.source.choose(kinds)
             yield kind.__name__, *kind()

@@ -21,6 +21,11 @@ import time
 from pathlib import Path
 
 ROOT = Path(__file__).resolve().parent.parent
+sys.dont_write_bytecode = True  # the repository stays as it was
+sys.path.insert(0, str(ROOT / "reference"))
+import traces
+import verdicts
+
 BUILT = ROOT / "target"
 PATIENCE = 60  # seconds in which a command must end by itself
 BUILDING = 900  # seconds in which the kit must have built what the gate has not
@@ -135,12 +140,14 @@ def status_of_a_listing(tree):
 
 def status_of_a_closed_pipe(tree):
     tree.lists()
-    reading, writing = os.pipe()
-    os.close(reading)
-    process = tree.start("list", stdin=subprocess.PIPE, stdout=writing)
-    os.close(writing)
-    said = process.communicate(WORDS, timeout=PATIENCE)[1]
-    check(process.returncode == 128 + signal.SIGPIPE and said == b"", process.returncode, said)
+    has_traces(tree)
+    for words in (("list",), ("replay", "agree.trace")):
+        reading, writing = os.pipe()
+        os.close(reading)
+        process = tree.start(*words, stdin=subprocess.PIPE, stdout=writing)
+        os.close(writing)
+        said = process.communicate(WORDS, timeout=PATIENCE)[1]
+        check(process.returncode == 128 + signal.SIGPIPE and said == b"", words, process.returncode, said)
 
 
 def status_of_what_cannot_start(tree):
@@ -162,9 +169,93 @@ def status_of_a_run(tree):
         expect(tree.run("run", data=text), *wanted)
 
 
+# Names that a shell, or a table of columns, could take for something else.
+NAMES = (
+    b"a b", b"a\tb", b"a\nb", b"-n", b"--", b"END", b"$(false) `false` $HOME", b"\"'\\", b"*", b"%s", b"\xc3\x81\x82\x88\xff\x7f",
+    b"n" * 255,
+)  # fmt: skip
+
+
+def has_traces(tree):
+    """Makes three traces and a folder, and builds the program; returns what kob said then."""
+    for name, trace in (("agree.trace", traces.agree()), ("differ.trace", traces.differ()), ("cut.trace", traces.agree()[:63])):
+        (tree.elsewhere / name).write_bytes(trace)
+    (tree.elsewhere / "folder.trace").mkdir()
+    return tree.run("replay", "agree.trace")[2]
+
+
+def judgement(folder, *names):
+    """What kob is to say of these files: their lines by the model, the rest by docs/replay.md."""
+    wrote = said = b""
+    sums = [0, 0, 0, 0]
+    for name in map(os.fsencode, names):
+        try:
+            trace = Path(os.fsdecode(os.path.join(bytes(folder), name))).read_bytes()
+        except OSError:
+            said += b"kob: cannot read %s\n" % name
+        else:
+            wrote += verdicts.lines(name, trace)
+            sums = [sum(pair) for pair in zip(sums, (1, *verdicts.counts(trace)))]
+    wrote += b"total\t%d traces\t%d cases\t%d agree\t%d refused\n" % tuple(sums)
+    judged, cases, agree, refused = sums
+    if refused:
+        said += b"kob: refused: %d of %d traces\n" % (refused, judged)
+    if agree < cases:
+        said += b"kob: not agreeing: %d of %d cases\n" % (cases - agree, cases)
+    return 1 if said else 0, wrote, said
+
+
+def status_of_a_replay(tree):
+    said = has_traces(tree)
+    check(b"building 'kob replay'" in said and tree.calls() == ["check replay_files"], "it was built otherwise:", said)
+    for names in (
+        ("agree.trace",),
+        ("differ.trace",),
+        ("agree.trace", "differ.trace"),
+        ("cut.trace",),
+        ("cut.trace", "agree.trace"),
+        ("nothing.trace",),
+        ("",),
+        ("folder.trace", "agree.trace"),
+        ("differ.trace", "nothing.trace", "cut.trace", "folder.trace", "agree.trace", "agree.trace"),
+    ):
+        expect(tree.run("replay", *names), *judgement(tree.elsewhere, *names))
+    status, wrote, said = tree.run("replay", "agree.trace", stdin=None, preexec_fn=lambda: os.close(0))
+    check((status, said) == (0, b""), "with no input it ended with", status, said)
+    got = tree.run("replay", "agree.trace", preexec_fn=lambda: os.close(1))
+    expect(got, 1, b"", b"kob: the output is not open\n")
+    with open("/dev/full", "wb") as full:
+        got = tree.run("replay", "differ.trace", "agree.trace", stdout=full)
+        expect(got, 1, None, b"kob replay: the output could not be written\n")
+        got = tree.run("replay", "nothing.trace", stdout=full)
+        expect(got, 1, None, b"kob: cannot read nothing.trace\nkob: the output could not be written\n")
+
+
+def names_of_traces(tree):
+    has_traces(tree)
+    for name in NAMES:
+        shutil.copy(tree.elsewhere / "differ.trace", os.path.join(bytes(tree.elsewhere), name))
+    for shell in ("sh", "bash"):
+        got = tree.run(tree.kob, "replay", *NAMES, kob=shell)
+        expect(got, *judgement(tree.elsewhere, *NAMES))
+    whole = str(tree.elsewhere / "agree.trace")
+    expect(tree.run("replay", whole), *judgement(tree.elsewhere, whole))
+    # A pipe gives its bytes once, so it must not be opened twice.
+    pipe = tree.elsewhere / "pipe.trace"
+    os.mkfifo(pipe)
+    with subprocess.Popen(["sh", "-c", 'exec cat agree.trace > "$0"', pipe], cwd=tree.elsewhere) as writer:
+        try:
+            got = tree.run("replay", pipe.name)
+        finally:
+            writer.kill()
+    wanted = verdicts.lines(pipe.name, traces.agree()) + b"total\t1 traces\t5 cases\t5 agree\t0 refused\n"
+    expect(got, 0, wanted, b"")
+
+
 def status_of_usage(tree):
     one_too_many = [(word, "a", "b") for word in ("list", "run", "install", "staticlib", "dist", "test", "version", "help")]
-    for words in ((), ("",), ("lists",), ("list", "words.bin"), ("install",), ("install", ""), ("install", "-x"), *one_too_many):
+    wrong = ((), ("",), ("lists",), ("list", "words.bin"), ("replay",), ("install",), ("install", ""), ("install", "-x"))
+    for words in (*wrong, *one_too_many):
         status, wrote, said = tree.run(*words)
         check((status, wrote) == (2, b"") and b"kob help" in said, words, status, wrote, said)
     for word in ("help", "--help", "-h"):
@@ -199,17 +290,31 @@ def fastest(command, *arguments):
     return min(times)
 
 
-def starts_in_5_ms(tree):
+def in_5_ms(what, *arguments):
     """Or, where the machine is slow, in four times what a shell takes that does nothing. A busy spell only adds to a time
     and can last for a whole batch, so the best of several batches counts."""
-    tree.lists()
-    listing = shell = float("inf")
+    took = shell = float("inf")
     for _ in range(10):
-        listing, shell = min(listing, fastest(tree.lists)), min(shell, fastest(command, "sh", "-c", ":"))
-        if listing < max(5, 4 * shell):
+        took, shell = min(took, fastest(what, *arguments)), min(shell, fastest(command, "sh", "-c", ":"))
+        if took < max(5, 4 * shell):
             return
         time.sleep(1)
-    check(False, f"it took {listing:.1f} ms, and an empty shell {shell:.1f}")
+    check(False, f"it took {took:.1f} ms, and an empty shell {shell:.1f}")
+
+
+def starts_in_5_ms(tree):
+    tree.lists()
+    in_5_ms(tree.lists)
+
+
+def replays_in_5_ms(tree):
+    """As many cases as a trace can have, and words up to 64 KiB."""
+    has_traces(tree)
+    full = traces.record([traces.Case(128, 0, bytes(512), traces.WORDS[:count]) for count in [3] * 47 + [4] * 15])
+    check(len(full) == 65536, "the trace has", len(full), "bytes")
+    (tree.elsewhere / "full.trace").write_bytes(full)
+    wanted = judgement(tree.elsewhere, "full.trace")
+    in_5_ms(lambda: expect(tree.run("replay", "full.trace"), *wanted))
 
 
 # ---- building
@@ -221,7 +326,7 @@ def builds_once(tree):
     tree.lists()
     check(not tree.calls(), "the second listing built again")
     archive = tree.root / "target/staticlib/libkobbeskuim.a"
-    library = ["check exec listing", "staticlib capi", "staticlib capi_run"]
+    library = ["check exec listing replay", "staticlib capi_run", "staticlib capi", "staticlib capi_replay"]
     for built in (library, []):
         status, wrote, said = tree.run("staticlib")
         check((status, wrote) == (0, b"%s\n" % bytes(archive)), status, wrote, said)
@@ -344,7 +449,9 @@ def pages(tree):
     tree.run("staticlib")
     tree.run("list")
     tree.run("run", data=b"length 128")
-    examples = [example for name in ("README.md", "docs/list.md", "docs/c.md") for example in shown(tree.root / name)]
+    tree.run("replay", "nothing.trace")
+    names = "README.md", "docs/list.md", "docs/replay.md", "docs/c.md"
+    examples = [example for name in names for example in shown(tree.root / name)]
     check(len(examples) > 8, "there are only", examples)
     first = (tree.root / "examples/c/first.c").read_text()
     check(first in (tree.root / "README.md").read_text(), "README has another first.c")
@@ -395,6 +502,8 @@ def installed(tree, prefix, version):
     kob = prefix / "bin/kob"
     expect(tree.run("list", data=WORDS, kob=kob), 0, LISTING, b"")
     expect(tree.run("version", kob=kob), 0, b"kobbeskuim %s\n" % version.encode(), b"")
+    trace = str(prefix / "share/doc/kobbeskuim/examples/traces/differ.trace")
+    expect(tree.run("replay", trace, kob=kob), *judgement(prefix, trace))
     status, _, said = tree.run("staticlib", kob=kob)
     check(status == 1 and b"for a checkout" in said, "staticlib of an installed kob", status, said)
     bindings = prefix / "share/kobbeskuim"
@@ -458,16 +567,17 @@ def makes_a_tar(tree):
         check(part in note, "the note has no", part, note)
     crates = [line.split(":")[0] for line in (ROOT / "crates.txt").read_text().splitlines() if re.match(r"[a-z]", line)]
     for crate in crates:
-        assumed = r", assuming libc::read, libc::write" if crate in ("list", "execute") else ""
+        assumed = r", assuming libc::read, libc::write" if crate in ("list", "execute", "replay_files") else ""
         counted = re.search(rf"^{crate} \d+{assumed}$", note, re.M)
         check(bool(counted) != crate.endswith("cases"), "the note counts", crate, "wrongly")
     installed(tree, prefix, version)
 
 
 SCENARIOS = (
-    status_of_a_listing, status_of_a_closed_pipe, status_of_what_cannot_start, status_of_a_run, status_of_usage,
-    statuses_by_make, starts_in_5_ms, builds_once, fails_to_build, two_at_once, interrupted,
-    interrupted_while_another_waits, read_only_tree, pages, links, installs, installs_under_one_lock, makes_a_tar,
+    status_of_a_listing, status_of_a_closed_pipe, status_of_what_cannot_start, status_of_a_run, status_of_a_replay,
+    names_of_traces, status_of_usage, statuses_by_make, starts_in_5_ms, replays_in_5_ms, builds_once, fails_to_build,
+    two_at_once, interrupted, interrupted_while_another_waits, read_only_tree, pages, links, installs,
+    installs_under_one_lock, makes_a_tar,
 )  # fmt: skip
 
 

@@ -1,4 +1,5 @@
-# For the tests in shell: what a command prints, and a count of those that failed. $suite names the test.
+# For the tests in shell: what a command prints, what a page shows of it, and a count of those that failed. $suite
+# names the test.
 failed=0
 
 # prints NAME EXPECTED COMMAND..: the command succeeds and prints that
@@ -13,4 +14,9 @@ prints() {
         return
     fi
     failed=$((failed + 1))
+}
+
+# shown PAGE COMMAND: what the page shows below the command, up to the next one
+shown() {
+    awk -v command="\$ $2" '/^```/ || /^\$ / { on = 0 } on { print } $0 == command { on = 1 }' "$1"
 }

@@ -36,10 +36,12 @@ import harness
 import kernel_cases
 import kobbeskuim
 import model
+import replay
 import report
 import run_cases
+import traces
 from execution import LENGTHS, MULTIPLES
-from kobbeskuim import Family, Form, Number, Operation, Refused, Size, Stopped
+from kobbeskuim import Family, Form, Kind, Number, Operation, Refused, Size, Stopped, Verdict
 
 SONAME = f"libkobbeskuim.so.{kobbeskuim.VERSION.split('.')[0]}"
 CADD, OUTSIDE, RESERVED = 0x4500D800, 0x00000000, 0x2F00F000
@@ -187,6 +189,121 @@ class Words(unittest.TestCase):
             self.assertTrue(kobbeskuim.listing(data[:end]) == line * most + last, end)
 
 
+def judged(trace, n):
+    """The model's answer, as `answered` tells the module's."""
+    number, kind, place, _ = replay.judge(trace, n)
+    return number, None if number else (kind, place)
+
+
+class Traces(unittest.TestCase):
+    def agree(self, trace, n):
+        found = answered(kobbeskuim.replay, trace, n)
+        self.assertEqual(found, judged(trace, n), (n, len(trace), trace[:40].hex()))
+        return found
+
+    def agree_all(self, trace):
+        """The kinds of a good trace's verdicts."""
+        number, cases = replay.check(trace)
+        self.assertEqual(number, 0)
+        verdicts = [self.agree(trace, n)[1] for n in range(cases)]
+        self.assertEqual(kobbeskuim.replay_all(trace), verdicts)
+        for n in (cases, cases + 1, 1024, 2**32, 2**64 - 1):
+            self.assertEqual(self.agree(trace, n)[0], Number.NO_CASE)
+        return [kind for kind, _ in verdicts]
+
+    def refused(self, number, trace):
+        """By this number, also ahead of 22."""
+        for n in (0, 1, 2**64 - 1):
+            self.assertEqual(self.agree(trace, n)[0], number)
+        self.assertEqual(answered(kobbeskuim.replay_all, trace)[0], number)
+
+    def test_the_examples(self):
+        for name, _, kinds in traces.EXAMPLES:
+            self.assertEqual(self.agree_all((traces.FOLDER / name).read_bytes()), kinds)
+
+    def seen(self, maker, length):
+        """A case of some words, which now and then stop."""
+        words = [maker.good() for _ in range(maker.source.below(6))]
+        if maker.source.below(4) == 0:
+            words.append(maker.source.choose((maker.outside, maker.reserved))())
+        return traces.Case(length, maker.flag(), maker.file(4 * length), words)
+
+    def test_traces_with_damaged_bodies(self):
+        maker, kinds = harness.Maker(cases.Source(10)), set()
+        below = maker.source.below
+        for _, length in product(range(20), LENGTHS):
+            trace = bytearray(traces.record([self.seen(maker, length), self.seen(maker, 128)]))
+            at = traces.places(trace, 0)
+            for damages in range(8):  # each alone, and together
+                damaged = trace[:]
+                if damages & 1:
+                    damaged[at.file_after + below(4 * length)] ^= 1 << below(8)
+                if damages & 2:
+                    damaged[maker.source.choose((at.flag_before, at.flag_after))] ^= 1
+                if damages & 4:
+                    damaged[maker.source.choose((at.flag_before, at.flag_after)) + below(4)] ^= 1 << 1 + below(7)
+                kinds.update(self.agree_all(damaged))
+        self.assertEqual(kinds, set(Kind) - {Kind.NO_VERDICT})
+
+    def test_every_byte_of_a_file(self):
+        for length in LENGTHS:
+            trace = bytearray(traces.record([traces.seen(length, 0, 1)]))
+            start = traces.places(trace, 0).file_after
+            for place in range(4 * length):
+                trace[start + place] ^= 1
+                self.assertEqual(kobbeskuim.replay(trace, 0), (Kind.FILE_DIFFERS, place))
+                trace[start + place] ^= 1
+            self.assertEqual(kobbeskuim.replay(trace, 0), (Kind.AGREES, 0))
+
+    def test_places_of_words(self):
+        for last, wanted in ((CADD, (Kind.AGREES, 0)), (RESERVED, (Kind.RESERVED, 4095))):
+            trace = traces.record([traces.seen(128, 0, 1, *[CADD] * 4095, last)])
+            self.assertEqual(self.agree(trace, 0)[1], wanted)
+        for place in range(20):
+            trace = traces.record([traces.seen(128, 1, 1, *[CADD] * place, OUTSIDE, RESERVED)])
+            self.assertEqual(self.agree(trace, 0)[1], (Kind.OUTSIDE, place))
+
+    def test_numbers_of_the_contents(self):
+        two = traces.record([traces.seen(128, 0, 1, CADD), traces.seen(256, 1, 2)])
+        edges = {0, 1, 127, 128, 192, 256, 384, 1024, 1025, 2048, 2049, 2176, 4096, 4097, 2**31, 2**32 - 1}
+        for at in range(0, 28, 4):
+            (number,) = struct.unpack_from("<I", two, at)
+            near = {number - 1, number + 1, number + 4, number + 2**16, number + 2**24}
+            for other in (edges | near) - {number, -1}:
+                trace = replay.changed(two, at, other)
+                self.refused(replay.check(trace)[0], trace)
+        for length in range(2200):
+            trace = replay.changed(two, 4, length)
+            self.assertIn(self.agree(trace, 0)[0], {Number.BAD_CONTENTS, Number.BAD_TOTAL} if length != 128 else {0})
+
+    def test_traces_of_every_size_near_the_right_one(self):
+        good = traces.record([traces.seen(128, 0, 1, CADD)])
+        for size in (*range(20), *range(len(good) - 5, len(good))):
+            self.refused(Number.BAD_CONTENTS if size < 16 else Number.BAD_TOTAL, good[:size])
+        for more in (1, 4, 65536 - len(good), 65537 - len(good), 2**20):
+            self.refused(Number.BAD_TOTAL, good + bytes(more))
+
+    def test_the_longest_trace(self):
+        # Its programs stop at once, for the model is slow.
+        full = traces.record([traces.seen(2048, 0, 1, *[OUTSIDE] * 4096), traces.seen(2048, 0, 2, *[RESERVED] * 4085)])
+        self.assertEqual(len(full), 65536)
+        self.assertEqual(self.agree_all(full), [Kind.OUTSIDE, Kind.RESERVED])
+        self.refused(Number.BAD_TOTAL, full + b"\0")
+        self.refused(Number.BAD_TOTAL, replay.changed(full, 20, 4086) + bytes(4))  # as long as its contents say
+        for at, wrong in ((0, 0), (0, 1025), (4, 384), (8, 4097), (24, 0)):
+            self.refused(Number.BAD_CONTENTS, replay.changed(full, at, wrong) + b"\0")  # 15 comes first
+
+    def test_the_most_cases(self):
+        most = traces.record([traces.seen(128, k % 2, k, CADD) for k in range(62)])
+        self.assertEqual(self.agree_all(most), [Kind.AGREES] * 62)
+        for count, number in ((63, 16), (1024, 16), (1025, 15)):
+            self.refused(number, traces.record([traces.seen(128, 0, 1)] * count))
+
+    def test_a_verdict_has_its_types(self):
+        verdict = kobbeskuim.replay(traces.differ(), 0)
+        self.assertEqual([type(part) for part in (verdict, *verdict)], [Verdict, Kind, int])
+
+
 class Arguments(unittest.TestCase):
     """What C cannot take is refused before the call, and the file stays as it was."""
 
@@ -196,6 +313,7 @@ class Arguments(unittest.TestCase):
             for call in (kobbeskuim.run, kobbeskuim.register):
                 self.assertRaisesRegex(ValueError, f"^length is {wrong},.*2.64", call, wrong, file, 0)
             self.assertRaisesRegex(ValueError, "^register is", kobbeskuim.register, 128, file, wrong)
+            self.assertRaisesRegex(ValueError, f"^case is {wrong},.*2.64", kobbeskuim.replay, file, wrong)
         for wrong in (-1, 2**32, 2**32 + CADD, 2**64 + CADD):
             self.assertRaisesRegex(ValueError, f"^word 1 is {wrong},.*2.32", kobbeskuim.run, 128, file, [CADD, wrong])
             self.assertRaisesRegex(ValueError, "^word is", kobbeskuim.decode, wrong)
@@ -211,7 +329,8 @@ class Arguments(unittest.TestCase):
             (kobbeskuim.register, 128, memoryview(bytearray(1024))[::2], 0), (kobbeskuim.register, 128, 512, 0),
             (kobbeskuim.register, 128, file, 1.0), (kobbeskuim.decode, 1.0), (kobbeskuim.decode, None),
             (kobbeskuim.encode, None), (kobbeskuim.encode, [1.0]),
-            (kobbeskuim.listing, "text"), (kobbeskuim.listing, 4),
+            (kobbeskuim.listing, "text"), (kobbeskuim.listing, 4), (kobbeskuim.replay, "trace", 0),
+            (kobbeskuim.replay, 4, 0), (kobbeskuim.replay, file, 1.0), (kobbeskuim.replay_all, None),
         ):  # fmt: skip
             self.assertRaises(TypeError, call, *arguments)
         for wrong in (bytes(512), b"", memoryview(file).toreadonly(), memoryview(bytearray(1024))[::2]):
@@ -227,12 +346,23 @@ class Arguments(unittest.TestCase):
             self.assertEqual(bytes(kobbeskuim.register(128, file, 0)), wanted[:16])
         self.assertEqual((whole[0], whole[513]), (1, 1))
 
+    def test_traces_of_every_kind(self):
+        trace = traces.differ()
+        wanted = kobbeskuim.replay_all(trace)
+        lent = bytearray(b"\0" + trace + b"\0")
+        for given in (bytearray(trace), memoryview(trace), array("I", trace), memoryview(lent)[1:-1]):
+            self.assertEqual(kobbeskuim.replay_all(given), wanted)
+            self.assertEqual([kobbeskuim.replay(given, n) for n in range(len(wanted))], wanted)
+            self.assertEqual(bytes(given), trace)  # it is not written to
+
     def test_nothing_at_all(self):
         for empty in (bytearray(), array("I"), memoryview(bytearray(4))[4:]):
             self.assertEqual(answered(kobbeskuim.run, 0, empty, [])[0], Number.BAD_LENGTH)
             self.assertEqual(answered(kobbeskuim.run, 128, empty, [])[0], Number.BAD_SIZE)
             self.assertEqual(answered(kobbeskuim.register, 128, empty, 0)[0], Number.BAD_SIZE)
             self.assertEqual(kobbeskuim.listing(empty), "TOTAL 0\n")
+            self.assertEqual(answered(kobbeskuim.replay, empty, 0)[0], Number.BAD_CONTENTS)
+            self.assertEqual(answered(kobbeskuim.replay_all, empty)[0], Number.BAD_CONTENTS)
 
     def test_the_file_is_free_where_a_refusal_is_caught(self):
         for call in (kobbeskuim.run, kobbeskuim.register):
@@ -259,14 +389,15 @@ class Header(unittest.TestCase):
 
     def test_constants(self):
         defined = {name: int(value) for name, value in re.findall(r"^#define KOB_(\w+) (\d+)\b", self.text, re.M)}
-        found = {name: value for name, value in vars(kobbeskuim).items() if name.isupper() and type(value) is int}
-        found.update((member.name, member.value) for kind in (Number, Family, Form) for member in kind)
+        # Pairs, since three kinds of verdict are numbers too.
+        found = {(name, value) for name, value in vars(kobbeskuim).items() if name.isupper() and type(value) is int}
+        found.update((member.name, member.value) for names in (Number, Kind, Family, Form) for member in names)
         found.update((f"SIZE_{size.name}", size.value) for size in Size)
         found.update((field.upper(), place) for place, field in enumerate(Operation._fields))
-        found["FIELDS"] = len(Operation._fields)
+        found.add(("FIELDS", len(Operation._fields)))
         version = (f"VERSION_{part}" for part in ("MAJOR", "MINOR", "PATCH"))
         found.update(zip(version, map(int, kobbeskuim.VERSION.split("."))))
-        self.assertEqual(found, defined)
+        self.assertEqual(found, set(defined.items()))
         self.assertEqual([kobbeskuim.VERSION], re.findall(r'^#define KOB_VERSION "(.*)"', self.text, re.M))
 
     def test_texts(self):

@@ -1,6 +1,6 @@
 #!/bin/bash
-# The SystemVerilog package by Verilator: its constants, texts and calls (tests/systemverilog.sv), the first program
-# of docs/systemverilog.md, and the bench of examples/verilator; both are to print what that page shows.
+# The SystemVerilog package by Verilator: its constants, texts and calls (tests/systemverilog.sv), the programs of
+# docs/systemverilog.md, and the bench of examples/verilator; these are to print what that page shows.
 set -o pipefail
 cd "$(dirname "$0")/.." || exit 1
 # --binary came with 5.
@@ -15,10 +15,6 @@ work=$(mktemp -d) || exit 1
 trap 'rm -rf "$work"' EXIT
 suite=verilator
 . tests/prints.sh
-
-shown() { # COMMAND: what the page shows below it
-    awk -v command="\$ $1" '/^```/ { on = 0 } on { print } $0 == command { on = 1 }' docs/systemverilog.md
-}
 
 # built NAME WORDS..: what $work/NAME.sv prints, built with these words for Verilator. It runs for no time, so g++
 # is not to optimise.
@@ -36,9 +32,15 @@ built() (
 own() { grep -v '^- '; }
 printed() { built "$@" | own; }
 
-ln -s "$archive" "$PWD"/bindings/systemverilog/kobbeskuim.sv "$PWD"/tests/systemverilog.sv "$work" || exit 1
-awk '/^```/ { on = 0 } on { print } /^```systemverilog$/ { on = 1 }' docs/systemverilog.md >"$work/first.sv"
-prints first "$(shown obj_dir/Vfirst | own)" printed first -DKOB_LENGTH=128 -DKOB_WORDS=1
+# of_page NAME WORDS..: the page's module of that name, built with these words
+of_page() {
+    awk -v first="module $1;" '/^```/ { on = 0 } $0 == first { on = 1 } on { print }' docs/systemverilog.md >"$work/$1.sv"
+    prints "$1" "$(shown docs/systemverilog.md "obj_dir/V$1" | own)" printed "$@"
+}
+
+ln -s "$archive" "$PWD"/{bindings/systemverilog/kobbeskuim.sv,tests/systemverilog.sv,examples} "$work" || exit 1
+of_page first -DKOB_LENGTH=128 -DKOB_WORDS=1
+of_page replay -Wall -DKOB_TRACE=65536
 
 # The constants of the header, but for its version and the fields, which are a structure's members here.
 other='^KOB_(VERSION.*|FAMILY|SIZE|FORM|TURNS|DESTINATION|FIRST|SECOND|INDEX)$'
@@ -49,7 +51,7 @@ texts='int main(void) { for (unsigned n = 0; n < 64; n++) printf("%u %s\n", n, k
 printf '#include <kobbeskuim.h>\n#include <stdio.h>\n%s\n' "$texts" | gcc -Iinclude -xc - -o "$work/texts" || exit 1
 prints package "$("$work/texts")" printed systemverilog -Wall
 
-prints designs "$(shown examples/verilator/run)" examples/verilator/run
+prints designs "$(shown docs/systemverilog.md examples/verilator/run)" examples/verilator/run
 
-echo "verilator: 3 designs and 2 programs, $failed failed"
+echo "verilator: 3 designs and 3 programs, $failed failed"
 [ "$failed" = 0 ]

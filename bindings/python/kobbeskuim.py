@@ -1,4 +1,5 @@
-"""Kobbeskuim from Python: AArch64's saturating complex vector instructions, executed, decoded, written and listed.
+"""Kobbeskuim from Python: AArch64's saturating complex vector instructions, executed, decoded, written and listed, and
+a recorder's trace of them replayed.
 
 One file over the shared library, by ctypes. SQCADD at 128 bits: Z0 = (0, 0), Z1 = (-128, -128), 90 degrees.
 
@@ -28,7 +29,7 @@ from typing import TYPE_CHECKING, Iterable, NamedTuple, SupportsIndex
 if TYPE_CHECKING:
     from _typeshed import ReadableBuffer, WriteableBuffer
 
-VERSION = "0.2.0"
+VERSION = "0.3.0"
 _SONAME = f"libkobbeskuim.so.{VERSION.split('.')[0]}"
 
 # ---- limits
@@ -39,6 +40,8 @@ REGISTERS = 32
 FILE_SIZE_MAX = 8192  # bytes; a register file has 4 x L
 WORDS_MAX = 4096  # of a program
 LIST_WORDS_MAX = 1048576  # of a listing; one more gives its LIMIT line
+TRACE_MAX = 65536  # bytes
+CASES_MAX = 1024  # that the contents of a trace may name
 
 # ---- numbers answered, and the exceptions that carry them
 
@@ -66,6 +69,10 @@ class Number(IntEnum):
     REGISTER_LIMIT = 9, "register field above its limit"
     INDEX_LIMIT = 10, "index above its limit"
     NOT_POWER_OF_TWO = 11, "length not a power of two"
+    BAD_CONTENTS = 15, "contents cut short or not allowed"
+    BAD_TOTAL = 16, "trace above 64 KiB or not as long as its contents say"
+    BAD_FLAG = 17, "flag neither 0 nor 1"  # the kind of a verdict, not a refusal
+    NO_CASE = 22, "case not below the number of cases"
     BAD_FIELDS = 32, "fields not 8 numbers"
     NO_OPERATION = 33, "fields that name no operation"
 
@@ -135,6 +142,29 @@ class Ran(NamedTuple):
     qc: bool
 
 
+# ---- verdicts on the cases of a trace
+
+
+class Kind(IntEnum):
+    """What is said of a case. NO_VERDICT is C's, on a refusal."""
+
+    NO_VERDICT = 0
+    AGREES = 1
+    FILE_DIFFERS = 2
+    FLAG_DIFFERS = 3  # and the file agrees
+    OUTSIDE = 4  # the run stopped at such a word, and nothing was compared
+    RESERVED = 5
+    BAD_FLAG = 17  # QC before or after is neither 0 nor 1
+
+
+class Verdict(NamedTuple):
+    """Of a case. The place, from 0: of FILE_DIFFERS the first byte of the file that differs, which is in register
+    place // (L // 8); of OUTSIDE and RESERVED the word; else 0."""
+
+    kind: Kind
+    place: int = 0
+
+
 # ---- the shared library
 
 _SIZE, _WORD, _ANSWER = ctypes.c_size_t, ctypes.c_uint32, ctypes.c_uint64
@@ -147,6 +177,7 @@ _CALLS = {
     "kob_decode": (_WORD, _WORD, _WORDS, _SIZE),
     "kob_encode": (_ANSWER, _WORDS, _SIZE),
     "kob_list": (_ANSWER, _BYTES, _SIZE, _BYTES, _SIZE),
+    "kob_replay": (_ANSWER, _BYTES, _SIZE, _SIZE),
 }
 
 # Of any buffer, an empty one too, from_buffer of these is a pointer to its start.
@@ -287,3 +318,30 @@ def listing(data: ReadableBuffer) -> str:
     out = bytearray(21 * (len(given) // 4) + 32)  # KOB_LIST_ROOM, so there is always room
     length = _library.kob_list(_Bytes.from_buffer(given), len(given), _Bytes.from_buffer(out), len(out))
     return out[:length].decode("ascii")
+
+
+def _verdict(trace: bytearray, n: int) -> Verdict:
+    answer = _library.kob_replay(_Bytes.from_buffer(trace), len(trace), n)
+    _done(answer & 0xFF)
+    return Verdict(Kind(answer >> 8 & 0xFF), answer >> 16)
+
+
+def replay(trace: ReadableBuffer, n: SupportsIndex) -> Verdict:
+    """The verdict on case n, from 0, of a recorder's trace. Refused by 15, 16 or 22, the first that applies.
+
+    >>> contents = array("I", [1, 128, 1, 16]).tobytes()  # one case, at 128 bits, of one word, its body at byte 16
+    >>> word, qc, file = b"\\x20\\xd8\\x01\\x45", bytes(4), bytes(512)
+    >>> replay(contents + qc + file + word + qc + file, 0)
+    Verdict(kind=<Kind.AGREES: 1>, place=0)
+    >>> replay(contents + qc + file + word + qc + bytes(511), 0)
+    Traceback (most recent call last):
+    kobbeskuim.Refused: 16, trace above 64 KiB or not as long as its contents say
+    """
+    return _verdict(bytearray(memoryview(trace)), _number("case", n, 64))
+
+
+def replay_all(trace: ReadableBuffer) -> list[Verdict]:
+    """The verdicts on all cases of a trace, in order. Refused by 15 or 16."""
+    given = bytearray(memoryview(trace))
+    first = _verdict(given, 0)  # raises where the trace is refused, so that its number of cases is good
+    return [first, *(_verdict(given, n) for n in range(1, int.from_bytes(given[:4], "little")))]

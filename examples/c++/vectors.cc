@@ -40,6 +40,7 @@ void leave_empty(uint8_t *no_bytes, uint32_t *no_numbers) {
     const bool refused = kob_list(bytes.data(), bytes.size(), no_bytes, 0) == KOB_NO_ROOM &&
                          kob_list(no_bytes, 0, no_bytes, 0) == KOB_NO_ROOM;
     std::cout << "list, no room: " << (refused ? "refused" : "taken") << "\n";
+    tell("replay, no trace", kob_replay_number(kob_replay(no_bytes, 0, 0)));
 }
 
 } // namespace

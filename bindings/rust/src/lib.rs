@@ -34,6 +34,12 @@ pub const WORDS_MAX: usize = 4096;
 /// The most words that a listing lists; one more gives its LIMIT line.
 pub const LIST_WORDS_MAX: usize = 1_048_576;
 
+/// The most bytes of a trace, 64 KiB.
+pub const TRACE_MAX: usize = 65_536;
+
+/// The most cases that the contents of a trace may name.
+pub const CASES_MAX: usize = 1024;
+
 /// The bytes of a register file: registers 0 to 31 in order, L/8 bytes each, little-endian, element 0
 /// first. Register Vn is the first 16 bytes of Zn.
 pub const fn file_size(l: usize) -> usize {
@@ -95,6 +101,9 @@ numbers! {
         REGISTER_LIMIT = 9: "register field above its limit",
         INDEX_LIMIT = 10: "index above its limit",
         NOT_POWER_OF_TWO = 11: "length not a power of two",
+        BAD_CONTENTS = 15: "contents cut short or not allowed",
+        BAD_TOTAL = 16: "trace above 64 KiB or not as long as its contents say",
+        NO_CASE = 22: "case not below the number of cases",
         BAD_FIELDS = 32: "fields not 8 numbers",
         NO_OPERATION = 33: "fields that name no operation",
     }
@@ -170,6 +179,7 @@ unsafe extern "C" {
     fn kob_decode(word: u32, fields: *mut Fields, length: usize) -> u32;
     fn kob_encode(fields: *const Fields, length: usize) -> u64;
     fn kob_list(bytes: *const u8, length: usize, out: *mut u8, room: usize) -> u64;
+    fn kob_replay(trace: *const u8, length: usize, n: usize) -> u64;
 }
 
 fn answered<T>(number: u32, value: T) -> Result<T, Refused> {
@@ -293,4 +303,64 @@ pub fn list(bytes: &[u8]) -> String {
     let length = unsafe { kob_list(bytes.as_ptr(), bytes.len(), out.as_mut_ptr(), out.len()) };
     out.truncate(length as usize);
     String::from_utf8(out).expect("a listing is ASCII")
+}
+
+/// What is said of a case of a trace. A place is counted from 0.
+#[derive(Clone, Copy, Debug, PartialEq, Eq, Hash)]
+pub enum Verdict {
+    /// The run leaves the file and the flag that were recorded.
+    Agrees,
+    /// The first byte of the file that differs; `place / (l / 8)` is its register.
+    FileDiffers(usize),
+    /// The file agrees, and the flag does not.
+    FlagDiffers,
+    /// The run stopped at this word, which is outside the set. Nothing was compared.
+    Outside(usize),
+    /// The run stopped at this word, which is reserved. Nothing was compared.
+    Reserved(usize),
+    /// QC before or after is neither 0 nor 1, whatever else the case holds.
+    BadFlag,
+}
+
+impl fmt::Display for Verdict {
+    fn fmt(&self, f: &mut fmt::Formatter) -> fmt::Result {
+        match self {
+            Self::Agrees => f.pad("agrees"),
+            Self::FileDiffers(place) => write!(f, "file differs at byte {place}"),
+            Self::FlagDiffers => f.pad("flag differs"),
+            Self::Outside(word) => write!(f, "stopped at word {word}: {}", Refused::OUTSIDE),
+            Self::Reserved(word) => write!(f, "stopped at word {word}: {}", Refused::RESERVED),
+            Self::BadFlag => f.pad("flag neither 0 nor 1"),
+        }
+    }
+}
+
+/// The verdict on case n, counted from 0, of a recorder's trace of up to [`TRACE_MAX`] bytes. The first of
+/// `BAD_CONTENTS`, `BAD_TOTAL` and `NO_CASE` that applies refuses; include/kobbeskuim.h says how a trace is made.
+///
+/// ```
+/// use kobbeskuim::{Refused, Verdict, file_size, replay};
+///
+/// // One case, at 128 bits, of no words, its body at byte 16: QC, the file, QC and the file, all of zeros.
+/// let mut trace = [1u32, 128, 0, 16].map(u32::to_le_bytes).concat();
+/// trace.resize(16 + 2 * (4 + file_size(128)), 0);
+/// assert_eq!(replay(&trace, 0), Ok(Verdict::Agrees));
+/// assert_eq!(replay(&trace, 1), Err(Refused::NO_CASE));
+/// *trace.last_mut().unwrap() = 1;
+/// assert_eq!(replay(&trace, 0), Ok(Verdict::FileDiffers(511)));
+/// ```
+pub fn replay(trace: &[u8], n: usize) -> Result<Verdict, Refused> {
+    // Safety: the part is a slice.
+    let r = unsafe { kob_replay(trace.as_ptr(), trace.len(), n) };
+    let place = ((r >> 16) & 0xFFFF) as usize;
+    answered((r & 0xFF) as u32, ())?;
+    Ok(match (r >> 8) & 0xFF {
+        1 => Verdict::Agrees,
+        2 => Verdict::FileDiffers(place),
+        3 => Verdict::FlagDiffers,
+        4 => Verdict::Outside(place),
+        5 => Verdict::Reserved(place),
+        17 => Verdict::BadFlag,
+        kind => unreachable!("a verdict of kind {kind}"),
+    })
 }

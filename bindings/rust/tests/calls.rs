@@ -143,6 +143,99 @@ fn listing() {
     assert!(limit.ends_with("00000000 OUTSIDE\nLIMIT\n"));
 }
 
+fn numbers(numbers: &[u32]) -> Vec<u8> {
+    numbers.iter().flat_map(|number| number.to_le_bytes()).collect()
+}
+
+/// A file at 128 bits of zeros, but for Z0, which holds this pair throughout, and Z1, which holds (-128, -128).
+fn file(pair: [u8; 2]) -> Vec<u8> {
+    let mut file = [pair; 256].concat();
+    file[16..32].fill(0x80);
+    file[32..].fill(0);
+    file
+}
+
+/// The trace of cases at 128 bits, which start with (0, 0) in Z0: words, QC before and after, the file after.
+fn trace(cases: &[(&[u32], [u32; 2], Vec<u8>)]) -> Vec<u8> {
+    let (mut contents, mut bodies) = (numbers(&[cases.len() as u32]), vec![]);
+    for (words, [before, after], left) in cases {
+        let start = 4 + 12 * cases.len() + bodies.len();
+        contents.extend(numbers(&[128, words.len() as u32, start as u32]));
+        bodies.extend([numbers(&[*before]), file([0, 0]), numbers(words), numbers(&[*after]), left.clone()].concat());
+    }
+    [contents, bodies].concat()
+}
+
+/// SQCADD Z0.B, Z0.B, Z1.B, 90, which leaves (127, -128) in Z0.
+const SQCADD: u32 = 0x4501_D820;
+
+#[test]
+fn verdicts() {
+    let (right, mut last) = (file([127, 0x80]), file([127, 0x80]));
+    last[511] = 1;
+    let mut wrong = last.clone();
+    wrong[17] = 0;
+    let cases: [(&[u32], _, _, _); 10] = [
+        (&[SQCADD], [0, 0], &right, Verdict::Agrees),
+        (&[SQCADD], [1, 1], &right, Verdict::Agrees),
+        (&[], [1, 1], &file([0, 0]), Verdict::Agrees),
+        (&[SQCADD], [0, 0], &last, Verdict::FileDiffers(511)),
+        (&[SQCADD], [0, 1], &wrong, Verdict::FileDiffers(17)),
+        (&[SQCADD], [0, 1], &right, Verdict::FlagDiffers),
+        (&[SQCADD, 0, SQCADD], [0, 1], &wrong, Verdict::Outside(1)),
+        (&[SQCADD, SQCADD, 0x2F00_F000], [0, 0], &right, Verdict::Reserved(2)),
+        (&[0], [2, 0], &wrong, Verdict::BadFlag),
+        (&[SQCADD], [0, 256], &right, Verdict::BadFlag),
+    ];
+    let trace = trace(&cases.map(|(words, flags, left, _)| (words, flags, left.clone())));
+    for (n, (.., verdict)) in cases.iter().enumerate() {
+        assert_eq!(replay(&trace, n), Ok(*verdict), "case {n}");
+    }
+    for n in [10, 1 << 32, usize::MAX] {
+        assert_eq!(replay(&trace, n), Err(Refused::NO_CASE));
+    }
+}
+
+/// Each also where there is no case of that number.
+#[test]
+fn traces_refused() {
+    let good = trace(&[(&[SQCADD], [0, 0], file([127, 0x80])), (&[], [0, 0], file([0, 0]))]);
+    let refused = |trace: &[u8]| [0, usize::MAX].map(|n| replay(trace, n));
+    for size in [0, 3, 4, 27] {
+        assert_eq!(refused(&good[..size]), [Err(Refused::BAD_CONTENTS); 2], "{size} bytes");
+    }
+    for trace in [&good[..28], &good[..good.len() - 1], &[&good[..], &[0]].concat()] {
+        assert_eq!(refused(trace), [Err(Refused::BAD_TOTAL); 2], "{} bytes", trace.len());
+    }
+    let start = good.len() as u32 - 1032;
+    let cases = [(0, 0), (0, 1), (0, 3), (0, 1025)];
+    for (at, number) in cases.into_iter().chain([(16, 384), (20, 4097), (12, 27), (24, start - 1), (24, start + 1)]) {
+        let mut trace = good.clone();
+        trace[at..at + 4].copy_from_slice(&numbers(&[number]));
+        assert_eq!(refused(&trace), [Err(Refused::BAD_CONTENTS); 2], "{number} at {at}");
+        trace.resize(TRACE_MAX + 1, 0); // 15 comes ahead of 16
+        assert_eq!(refused(&trace), [Err(Refused::BAD_CONTENTS); 2], "{number} at {at}, in a long trace");
+    }
+}
+
+#[test]
+fn longest_trace() {
+    let words = [0x4500_D800; WORDS_MAX];
+    let four = |last| {
+        let programs = [&words[..], &words[..], &words[..], &words[..last]];
+        trace(&programs.map(|words| (words, [1, 1], file([0, 0]))))
+    };
+    let mut full = four(3051);
+    assert_eq!(full.len(), TRACE_MAX);
+    for n in 0..4 {
+        assert_eq!(replay(&full, n), Ok(Verdict::Agrees));
+    }
+    assert_eq!(replay(&full, 4), Err(Refused::NO_CASE));
+    assert_eq!(replay(&four(3052), 0), Err(Refused::BAD_TOTAL));
+    full.push(0);
+    assert_eq!(replay(&full, 0), Err(Refused::BAD_TOTAL));
+}
+
 /// The header: in the tree, or in the prefix that the crate is installed into.
 fn header() -> String {
     let read =
@@ -165,6 +258,8 @@ fn as_in_the_header() {
         ("FILE_SIZE_MAX", file_size(LENGTHS[4])),
         ("WORDS_MAX", WORDS_MAX),
         ("LIST_WORDS_MAX", LIST_WORDS_MAX),
+        ("TRACE_MAX", TRACE_MAX),
+        ("CASES_MAX", CASES_MAX),
         ("FIELDS", size_of::<Fields>() / 4),
     ];
     let numbers = (limits.iter().map(|(name, limit)| (name.to_string(), *limit as u32)))
@@ -175,11 +270,18 @@ fn as_in_the_header() {
     for (name, number) in numbers {
         assert_eq!(defined(name.clone()), number.to_string(), "KOB_{name}");
     }
+    // The kinds of verdict, each of which is tried above; the others are Refused's.
+    for (name, kind) in [("AGREES", "1"), ("FILE_DIFFERS", "2"), ("FLAG_DIFFERS", "3"), ("BAD_FLAG", "17")] {
+        assert_eq!(defined(name.into()), kind, "KOB_{name}");
+    }
     for refused in Refused::ALL {
         let text = format!("case KOB_{refused:?}: return \"{refused}\";");
         assert!(header.contains(&text), "the header has no {text}");
     }
-    assert_eq!(header.matches("case KOB_").count(), Refused::ALL.len() + 1, "the header's texts, done among them");
+    let text = format!("case KOB_BAD_FLAG: return \"{}\";", Verdict::BadFlag);
+    assert!(header.contains(&text), "the header has no {text}");
+    let texts = header.matches("case KOB_").count();
+    assert_eq!(texts, Refused::ALL.len() + 2, "the header's texts, that of done and of a verdict among them");
     assert_eq!(defined("VERSION".into()), format!("\"{}\"", env!("CARGO_PKG_VERSION")));
     let parts = ["MAJOR", "MINOR", "PATCH"].map(|part| defined(format!("VERSION_{part}")));
     assert_eq!(parts.join("."), env!("CARGO_PKG_VERSION"));

@@ -1,7 +1,7 @@
 // What can be wrong with a line of the text.
-use crate::put::put_line;
-use crate::put::put_number;
-use crate::put::put_text;
+use text::put_line;
+use text::put_number;
+use text::put_text;
 
 // The number of a line of REASONS.
 pub type Fault = u8;

@@ -5,7 +5,6 @@ ghost use Prim.Native.Nat.{_≤_};
 mod fault;
 mod parse;
 mod part;
-mod put;
 mod report;
 mod scan;
 
@@ -19,6 +18,7 @@ use crate::report::put_report;
 use isa::types::Ran;
 use libc::STDERR_FILENO;
 use libc::STDOUT_FILENO;
+use text::write_start;
 
 // The longest text.
 const MOST_TEXT: usize = 65536;
@@ -42,12 +42,6 @@ fn least(a: usize, b: usize) -> usize
     ensures { λ r. ⌜ r ≤ b ⌝ }
 {
     if a < b { a } else { b }
-}
-
-// Writes the first n bytes, or all where there are fewer.
-fn write_start(fd: i32, out: &[u8], n: usize) -> bool {
-    let end = least(n, out.len());
-    io::write_all(fd, &out[0..end])
 }
 
 fn run(request: Request, file: &mut [u8], words: &[u32]) -> Ran {

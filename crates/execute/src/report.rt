@@ -1,12 +1,13 @@
 // What a run came to, as text.
 use crate::parse::Request;
 use crate::part::part;
-use crate::put::put_byte;
-use crate::put::put_hex;
-use crate::put::put_line;
-use crate::put::put_number;
 use isa::types::Ending;
 use isa::types::Ran;
+use text::put_byte;
+use text::put_hex;
+use text::put_line;
+use text::put_number;
+use text::put_word;
 
 // What the answers mean: a line each, as `meaning_line` counts them.
 const MEANINGS: [u8; 163] = *b" done
@@ -148,16 +149,6 @@ fn put_ran(out: &mut [u8], ending: Ending, done: usize, qc: bool) -> usize {
     put_byte(out, flagged, b'\n')
 }
 
-// The highest byte first.
-fn bytes_of(word: u32) -> [u8; 4] {
-    [
-        (word / 16777216 % 256) as u8,
-        (word / 65536 % 256) as u8,
-        (word / 256 % 256) as u8,
-        (word % 256) as u8,
-    ]
-}
-
 // Whether a word ended the run.
 fn at_word(ending: Ending) -> bool {
     match ending {
@@ -172,9 +163,9 @@ fn put_place(out: &mut [u8], at: usize, ending: Ending, n: usize, words: &[u32])
     if !at_word(ending) || words.len() <= n {
         return at;
     }
-    let bytes = bytes_of(words[n]);
     let numbered = put_number(out, at, b"at word ", n as u64);
-    let told = put_bytes(out, numbered, &bytes);
+    let parted = put_byte(out, numbered, b' ');
+    let told = put_word(out, parted, words[n]);
     put_byte(out, told, b'\n')
 }
 

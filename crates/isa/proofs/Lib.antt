@@ -1,3 +1,4 @@
+pub mod Bytes
 pub mod Fields
 pub mod Apart
 pub mod Table

@@ -1,6 +1,5 @@
 pub mod WithText
 pub mod Tests
-pub mod Words
 pub mod Lines
 pub mod Decimal
 pub mod Parts

@@ -10,10 +10,11 @@ use lib.Seq.{take-suc, length-take-le}
 use Rattle.isa.specs.Decode.{decodeOf}
 use Rattle.isa.specs.declared.types.Op.{Op}
 use Rattle.isa.specs.declared.types.Decoded.{Decoded}
-use Rattle.listing.specs.Listing.{ascii, operationName, nameOf, hexOf, lineOf, linesOf, wordsOf}
-use Rattle.listing.specs.Call.{Wrote, wordAt}
+use Rattle.isa.specs.Bytes.{wordAt, wordsOf}
+use Rattle.listing.specs.Listing.{ascii, operationName, nameOf, hexOf, lineOf, linesOf}
+use Rattle.listing.specs.Call.{Wrote}
 use Rattle.listing.proofs.WithText.{wrote-none, wrote-then}
-use Rattle.listing.proofs.Words.{words-length, words-at}
+use Rattle.isa.proofs.Bytes.{words-length, words-at}
 
 operation-short : (op : Op) → length (ascii (operationName op)) ≤ 11
 operation-short (Op.Cadd a) = lit≤ tt

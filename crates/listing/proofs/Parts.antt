@@ -11,13 +11,14 @@ use borrow.Author.Tests.{lt-ltb, le-ltb, le-leb, lt-leb, leb-true, leb-false}
 use lib.Dec.{leb, ltb}
 use lib.ListN.{length, take, drop, length-append, take-append-drop}
 use lib.Seq.{take-all}
-use Rattle.listing.specs.Listing.{PieceText, ascii, linesOf, wordsOf, tailOf, tailLine, totalLine, countLine, limitLine, limit, overOf, lastOf, moreOf, partOf}
+use Rattle.isa.specs.Bytes.{wordsOf}
+use Rattle.listing.specs.Listing.{PieceText, ascii, linesOf, tailOf, tailLine, totalLine, countLine, limitLine, limit, overOf, lastOf, moreOf, partOf}
 use Rattle.listing.specs.Call.{Wrote, PartOutcome, roomFor, textOutcome, outcomeOfPart, ListReturns, ListsAs}
 use Rattle.isa.specs.Number.{listedNumber, listedPart}
 use Rattle.isa.specs.declared.types.ListedPart.{ListedPart}
 use Rattle.isa.specs.declared.types.Listed.{Listed}
 use Rattle.listing.proofs.WithText.{with-start, wrote-then}
-use Rattle.listing.proofs.Words.{words-length}
+use Rattle.isa.proofs.Bytes.{words-length}
 use Rattle.listing.proofs.Lines.{lines-short}
 use Rattle.listing.proofs.Decimal.{count-short, tail-short}
 

@@ -10,8 +10,9 @@ use borrow.Author.Tests.{lt-ltb, le-ltb}
 use lib.Dec.{ltb}
 use lib.ListN.{length, take, length-append}
 use lib.Seq.{take-append-le, take-append-add}
-use Rattle.listing.specs.Listing.{PieceText, linesOf, wordsOf, tailOf, tailLine, totalLine, limitLine, limit, overOf, lastOf, moreOf, partOf, listingOf, runOf, Whole, joined}
-use Rattle.listing.proofs.Words.{words-length, words-append}
+use Rattle.isa.specs.Bytes.{wordsOf}
+use Rattle.listing.specs.Listing.{PieceText, linesOf, tailOf, tailLine, totalLine, limitLine, limit, overOf, lastOf, moreOf, partOf, listingOf, runOf, Whole, joined}
+use Rattle.isa.proofs.Bytes.{words-length, words-append}
 use Rattle.listing.proofs.Lines.{lines-append}
 
 -- what is printed from the words done before on

@@ -5,7 +5,7 @@ use mathlib.Core.Bool.{Bool, true, false}
 use mathlib.Core.List.{List, [], _∷_, _++_}
 use lib.Dec.{ltb}
 use lib.ListN.{length, getD, take, drop}
-use Rattle.listing.specs.Listing.{PieceText, ascii, wordOf, partOf}
+use Rattle.listing.specs.Listing.{PieceText, ascii, partOf}
 use Rattle.isa.specs.Number.{listedNumber, listedPart}
 use Rattle.isa.specs.declared.types.ListedPart.{ListedPart}
 use Rattle.isa.specs.declared.types.Listed.{Listed}
@@ -35,10 +35,6 @@ names =
 
 abbrev pub nameAt : ℕ → List ℕ
 nameAt n = getD names n []
-
--- the word at a place
-unfoldable pub wordAt : List ℕ → ℕ → ℕ
-wordAt s at = wordOf (getD s at 0) (getD s (at + 1) 0) (getD s (at + 2) 0) (getD s (at + 3) 0)
 
 -- the room that a piece is asked for: 21 bytes for each line, and 32 for the last lines
 abbrev pub roomFor : List ℕ → ℕ

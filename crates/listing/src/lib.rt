@@ -4,9 +4,11 @@ ghost use mathlib.Core.List.{_++_};
 ghost use Prim.Native.Nat.{_+_, _-_, _*_, _/_, _<_, _≤_};
 ghost use lib.Dec.{leb, ltb};
 ghost use lib.ListN.{length, take};
-ghost use Rattle.listing.specs.Listing.{ascii, hexDigit, hexOf, operationName, nameOf, lineOf, linesOf, wordsOf, decimalOf, countLine, tailLine, limit, overOf, lastOf, moreOf};
-ghost use Rattle.listing.specs.Call.{Wrote, wordAt, nameAt, textOutcome, outcomeOfPart};
+ghost use Rattle.listing.specs.Listing.{ascii, hexDigit, hexOf, operationName, nameOf, lineOf, linesOf, decimalOf, countLine, tailLine, limit, overOf, lastOf, moreOf};
+ghost use Rattle.listing.specs.Call.{Wrote, nameAt, textOutcome, outcomeOfPart};
+ghost use Rattle.isa.specs.Bytes.{wordsOf};
 ghost use Rattle.isa.specs.Decode.{decodeOf};
+use codec::word_at;
 use isa::types::Decoded;
 use isa::types::Listed;
 use isa::types::ListedPart;
@@ -110,22 +112,6 @@ fn put_line(out: &mut [u8], at: usize, word: u32) -> usize
     let name = put_text(out, at, &hex);
     let end = put_name(out, name, word_number(word));
     put_text(out, end, b"\n")
-}
-
-fn wide(x: u8) -> u32
-    ensures { λ r. ⌜ (r ≡ x) × (r < 256) ⌝ }
-{
-    x as u32
-}
-
-fn word_at(bytes: &[u8], at: usize) -> u32
-    requires { ⌜ at + 4 ≤ length (now bytes) ⌝ }
-    ensures { λ r. ⌜ r ≡ wordAt (now (bytes .entry)) at ⌝ }
-{
-    wide(bytes[at])
-        + (wide(bytes[at + 1]) << 8)
-        + (wide(bytes[at + 2]) << 16)
-        + (wide(bytes[at + 3]) << 24)
 }
 
 // The lines of the first `count` words, from the buffer's start.

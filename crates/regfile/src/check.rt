@@ -6,7 +6,7 @@ use isa::types::Asked;
 use isa::types::Checked;
 
 // Whether l is a legal vector length.
-fn is_legal(l: usize) -> bool
+pub fn is_legal(l: usize) -> bool
     ensures { λ r. ⌜ r ≡ legal l ⌝ }
 {
     (l == 128) | ((l == 256) | ((l == 512) | ((l == 1024) | (l == 2048))))

@@ -1,0 +1,100 @@
+// The line on a case.
+use crate::contents::Case;
+use crate::contents::after_place;
+use crate::contents::case_at;
+use crate::contents::number_at;
+use crate::contents::words_place;
+use text::put_byte;
+use text::put_hex;
+use text::put_number;
+use text::put_text;
+use text::put_word;
+use trace::types::Verdict;
+
+// Byte i of the file after, and 0 past the trace's end. No file has more than 8,192 bytes.
+fn byte_after(trace: &[u8], case: Case, i: usize) -> u8 {
+    let at = after_place(case) + 4 + i % 8192;
+    if at < trace.len() { trace[at] } else { 0 }
+}
+
+// Word n of a case, and 0 past the trace's end. No case has more than 4,096 words.
+fn word_of(trace: &[u8], case: Case, n: usize) -> u32 {
+    number_at(trace, words_place(case) + (n % 4096 << 2))
+}
+
+// The register that byte i of the file lies in, and the byte's place there.
+fn put_place(out: &mut [u8], at: usize, i: usize, width: usize) -> usize {
+    if width == 0 {
+        return at;
+    }
+    let named = put_number(out, at, b"\tz", (i / width) as u64);
+    put_number(out, named, b" byte ", (i % width) as u64)
+}
+
+fn put_file_differs(
+    out: &mut [u8],
+    at: usize,
+    trace: &[u8],
+    case: Case,
+    i: usize,
+    expected: u8,
+) -> usize {
+    let counted = put_number(out, at, b"file differs\tbyte ", i as u64);
+    let placed = put_place(out, counted, i, case.bits as usize / 8);
+    let due = put_text(out, placed, b"\texpected ");
+    let told = put_hex(out, due, expected);
+    let found = put_text(out, told, b"\tfound ");
+    put_hex(out, found, byte_after(trace, case, i))
+}
+
+// Both flags are 0 or 1, so the one that the run leaves is the other.
+fn put_flag_differs(out: &mut [u8], at: usize, trace: &[u8], case: Case) -> usize {
+    if number_at(trace, after_place(case)) == 0 {
+        return put_text(out, at, b"flag differs\texpected 1\tfound 0");
+    }
+    put_text(out, at, b"flag differs\texpected 0\tfound 1")
+}
+
+// The word that ended the run, with the name that a listing has for it.
+fn put_stopped(
+    out: &mut [u8],
+    at: usize,
+    trace: &[u8],
+    case: Case,
+    n: usize,
+    name: &[u8],
+) -> usize {
+    let numbered = put_number(out, at, b"stopped\tword ", n as u64);
+    let parted = put_byte(out, numbered, b'\t');
+    let told = put_word(out, parted, word_of(trace, case, n));
+    put_text(out, told, name)
+}
+
+fn put_bad_flag(out: &mut [u8], at: usize, trace: &[u8], case: Case) -> usize {
+    let before = number_at(trace, case.start as usize);
+    let after = number_at(trace, after_place(case));
+    let told = put_number(out, at, b"bad flag\tbefore ", before as u64);
+    put_number(out, told, b"\tafter ", after as u64)
+}
+
+fn put_verdict(out: &mut [u8], at: usize, trace: &[u8], case: Case, verdict: Verdict) -> usize {
+    match verdict {
+        Verdict::Agrees => put_text(out, at, b"agrees"),
+        Verdict::FileDiffers(i, expected) => put_file_differs(out, at, trace, case, i, expected),
+        Verdict::FlagDiffers => put_flag_differs(out, at, trace, case),
+        Verdict::Outside(n) => put_stopped(out, at, trace, case, n, b" OUTSIDE"),
+        Verdict::Reserved(n) => put_stopped(out, at, trace, case, n, b" RESERVED"),
+        Verdict::BadFlag => put_bad_flag(out, at, trace, case),
+    }
+}
+
+// The line, from a place on: the case, its length and words, and the verdict.
+pub fn put_case(out: &mut [u8], at: usize, trace: &[u8], k: u32, verdict: Verdict) -> usize {
+    let case = case_at(trace, k);
+    let numbered = put_number(out, at, b"", k as u64);
+    let measured = put_number(out, numbered, b"\t", case.bits as u64);
+    let counted = put_number(out, measured, b"\t", case.words as u64);
+    let parted = put_byte(out, counted, b'\t');
+    let told = put_verdict(out, parted, trace, case, verdict);
+    put_byte(out, told, b'\n')
+}
