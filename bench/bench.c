@@ -5,6 +5,8 @@
  *   bench count SIDE ROW LENGTH      runs a program once, for a tool that counts instructions
  *   bench rows                       the names of the rows
  *   bench words ROW                  the program of a row, as little-endian words
+ *   bench replay ROUNDS              a line for each length and number of words of a case: both, the cases
+ *                                    of the trace, and the nanoseconds a case of the archive and of plain C
  *
  * A program has 4,096 words of one row, with every rotation and index. The registers of a word are
  * drawn anew and differ from one another: compiled C loops fall back to slow code where they coincide. */
@@ -139,6 +141,83 @@ static void times(int rounds, int lengths, char **given)
                    1e9 * best[row][k][1] / WORDS);
 }
 
+/* ---- traces: as many cases of one length as fit into 64 KiB. A case runs words of all rows on random
+ * bytes, and agrees, so that its files are compared to the last byte. */
+
+enum { MOST_TRACE = 65536, TURNS = 8 };
+
+typedef uint64_t replay(const uint8_t *trace, size_t length, size_t n);
+
+static replay *const judges[] = {kob_replay, plain_replay};
+
+static _Alignas(4) uint8_t trace[MOST_TRACE];
+
+static void put(size_t at, uint32_t n)
+{
+    memcpy(trace + at, &n, 4);
+}
+
+/* A body at the place. */
+static void put_case(size_t at, size_t l, const uint32_t *words, size_t count)
+{
+    size_t flag = at + 4 + 4 * l + 4 * count;
+    put(at, 0);
+    for (size_t k = 0; k < 4 * l; k++)
+        trace[at + 4 + k] = trace[flag + 4 + k] = next() >> 56;
+    memcpy(trace + at + 4 + 4 * l, words, 4 * count);
+    put(flag, plain_run(l, trace + flag + 4, 4 * l, false, words, count) >> 8 & 1);
+}
+
+/* How many cases it has. */
+static size_t put_trace(size_t l, size_t count)
+{
+    static uint32_t words[WORDS];
+    size_t size = 8 + 8 * l + 4 * count, cases = (MOST_TRACE - 4) / (12 + size);
+    put(0, cases);
+    for (size_t k = 0; k < cases; k++) {
+        size_t at = 4 + 12 * cases + k * size;
+        program(MIXED, words);
+        put(4 + 12 * k, l);
+        put(8 + 12 * k, count);
+        put(12 + 12 * k, at);
+        put_case(at, l, words, count);
+    }
+    return cases;
+}
+
+/* A case, on average over all of them. */
+static double case_seconds(int side, size_t length, size_t cases)
+{
+    struct timespec a, b;
+    uint64_t others = 0;
+    clock_gettime(CLOCK_MONOTONIC, &a);
+    for (int turn = 0; turn < TURNS; turn++)
+        for (size_t n = 0; n < cases; n++)
+            others |= judges[side](trace, length, n) ^ KOB_AGREES << 8;
+    clock_gettime(CLOCK_MONOTONIC, &b);
+    if (others) {
+        fprintf(stderr, "bench: a case did not agree\n");
+        exit(1);
+    }
+    return (b.tv_sec - a.tv_sec + 1e-9 * (b.tv_nsec - a.tv_nsec)) / TURNS / cases;
+}
+
+static void replays(int rounds)
+{
+    static const size_t lengths[] = {128, 2048}, counts[] = {0, 16, 256};
+    for (int row = 0; row < 6; row++) {
+        size_t l = lengths[row / 3], count = counts[row % 3], cases = put_trace(l, count);
+        size_t length = 4 + (20 + 8 * l + 4 * count) * cases;
+        double best[2] = {1e9, 1e9};
+        for (int turn = 0; turn < 6 * rounds; turn++) {
+            double taken = case_seconds(turn % 2, length, cases);
+            if (taken < best[turn % 2])
+                best[turn % 2] = taken;
+        }
+        printf("%zu\t%zu\t%zu\t%.3f\t%.3f\n", l, count, cases, 1e9 * best[0], 1e9 * best[1]);
+    }
+}
+
 int main(int count, char **given)
 {
     for (size_t k = 0; k < sizeof fresh; k++)
@@ -156,8 +235,11 @@ int main(int count, char **given)
     } else if (count == 3 && !strcmp(what, "words")) {
         program(atoi(given[2]), words);
         fwrite(words, sizeof words, 1, stdout);
+    } else if (count == 3 && !strcmp(what, "replay")) {
+        replays(atoi(given[2]));
     } else {
-        fprintf(stderr, "usage: bench time ROUNDS LENGTH... | count SIDE ROW LENGTH | rows | words ROW\n");
+        fprintf(stderr,
+                "usage: bench time ROUNDS LENGTH... | count SIDE ROW LENGTH | rows | words ROW | replay ROUNDS\n");
         return 2;
     }
     return 0;

@@ -9,18 +9,16 @@ import os
 import subprocess
 import sys
 import tempfile
+from itertools import chain
 from pathlib import Path
 
 ROOT = Path(__file__).resolve().parent.parent
 sys.dont_write_bytecode = True  # the repository stays as it was
 sys.path.insert(0, str(ROOT / "reference"))
 import report
+from scenario import Fault, run_all
 
 PATIENCE = 60  # seconds in which a run must end by itself
-
-
-class Fault(Exception):
-    """What a scenario found to be wrong."""
 
 
 def run(stdin=None, stdout=subprocess.PIPE, data=None, **more):
@@ -224,22 +222,9 @@ def shown():
     yield "the longest report", as_modelled, b"length 2048\nshow b\nz 31 %s\n%s" % (b"80" * 256, words)
 
 
-def main(parts):
-    tried = failed = 0
-    for part in parts:
-        for name, test, *arguments in part():
-            tried += 1
-            try:
-                test(*arguments)
-            except (Fault, OSError) as fault:
-                failed += 1
-                print(f"execute: {name}: {fault}", flush=True)
-    print(f"execute: {tried} scenarios, {failed} failed")
-    return 1 if failed else 0
-
-
 if __name__ == "__main__":
     if len(sys.argv) < 2 or sys.argv[2:] not in ([], ["--shown"]):
         sys.exit("usage: python3 tests/execute.py PROGRAM [--shown]")
     PROGRAM = os.path.abspath(sys.argv[1])
-    sys.exit(main([accepted, refused, wrong, outside_the_text] + ([shown] if sys.argv[2:] else [])))
+    parts = [accepted, refused, wrong, outside_the_text] + ([shown] if sys.argv[2:] else [])
+    sys.exit(run_all("execute", chain.from_iterable(part() for part in parts)))

@@ -22,12 +22,9 @@ sys.path.insert(0, str(Path(__file__).resolve().parent.parent / "reference"))
 import cases
 import model
 from model import LIMIT
+from scenario import Fault, run_all
 
 PATIENCE = 60  # seconds in which a run must end by itself
-
-
-class Fault(Exception):
-    """What a scenario found to be wrong."""
 
 
 # ---- running the program
@@ -277,21 +274,8 @@ def scenarios():
     yield "output that nobody reads, without the signal", quiet
 
 
-def main():
-    tried = failed = 0
-    for name, test, *arguments in scenarios():
-        tried += 1
-        try:
-            test(*arguments)
-        except (Fault, OSError) as fault:
-            failed += 1
-            print(f"listing: {name}: {fault}", flush=True)
-    print(f"listing: {tried} scenarios, {failed} failed")
-    return 1 if failed else 0
-
-
 if __name__ == "__main__":
     if len(sys.argv) != 2:
         sys.exit("usage: python3 tests/listing.py PROGRAM")
     PROGRAM = os.path.abspath(sys.argv[1])
-    sys.exit(main())
+    sys.exit(run_all("listing", scenarios()))

@@ -10,6 +10,7 @@ import re
 import subprocess
 import sys
 import tempfile
+from itertools import chain
 from pathlib import Path
 
 ROOT = Path(__file__).resolve().parent.parent
@@ -20,15 +21,12 @@ import traces
 import verdicts
 from execution import LENGTHS
 from replay import MOST_BYTES, MOST_CASES, changed, numbers
+from scenario import Fault, run_all
 from traces import CADD, OUTSIDE, RESERVED, SQRDMLAH, Case, places, record, seen
 
 PATIENCE = 60  # seconds in which a run must end by itself
 ALL_ONES = 2**32 - 1
 NAME = b"a.trace"
-
-
-class Fault(Exception):
-    """What a scenario found to be wrong."""
 
 
 # ---- running the program
@@ -280,22 +278,8 @@ def around():
 PARTS = judged, refused_contents, refused_first, refused_total, documented, names, around
 
 
-def main():
-    tried = failed = 0
-    for part in PARTS:
-        for name, test, *arguments in part():
-            tried += 1
-            try:
-                test(*arguments)
-            except (Fault, OSError) as fault:
-                failed += 1
-                print(f"replay: {name}: {fault}", flush=True)
-    print(f"replay: {tried} scenarios, {failed} failed")
-    return 1 if failed else 0
-
-
 if __name__ == "__main__":
     if len(sys.argv) != 2:
         sys.exit("usage: python3 tests/replay.py PROGRAM")
     PROGRAM = os.path.abspath(sys.argv[1])
-    sys.exit(main())
+    sys.exit(run_all("replay", chain.from_iterable(part() for part in PARTS)))
