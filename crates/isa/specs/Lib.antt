@@ -1,5 +1,5 @@
 -- What a reader has to believe of this crate, in the order of document 01.
--- words: the form of a row, the table, which words are operations, decoding, writing
+-- words: as bytes, the form of a row, the table, which words are operations, decoding, writing
 pub mod Bytes
 pub mod Field
 pub mod Table

@@ -33,11 +33,11 @@ module _ (xs ys : List ℕ) where
   alike-one n a here = alike-more n 1 a (λ i h. let first : n ≡ n + i = omega arith in subst (λ (k : ℕ). getD xs k 0 ≡ getD ys k 0) first here)
 
   module _ (v : Verdict) (b : Blocks xs ys) (n : ℕ) (d : Differing xs ys n) where
-    pub told : n < length xs → Verdict.FileDiffers n (getD xs n 0) ≡ compared 0 xs ys v
-    told l = sym (compared-differs v xs ys 0 n (b .same) l (d .alike) (d .here l) ∙ ap (λ (k : ℕ). Verdict.FileDiffers k (getD xs n 0)) (zero-add n))
+    pub differs-compared : n < length xs → Verdict.FileDiffers n (getD xs n 0) ≡ compared 0 xs ys v
+    differs-compared l = sym (compared-differs v xs ys 0 n (b .same) l (d .alike) (d .here l) ∙ ap (λ (k : ℕ). Verdict.FileDiffers k (getD xs n 0)) (zero-add n))
 
-    pub untold : length xs ≤ n → v ≡ compared 0 xs ys v
-    untold l = sym (compared-same v xs ys 0 (b .same) (λ i h. d .alike i (omega arith)))
+    pub same-compared : length xs ≤ n → v ≡ compared 0 xs ys v
+    same-compared l = sym (compared-same v xs ys 0 (b .same) (λ i h. d .alike i (omega arith)))
 
 -- ---- a block, by a test that is made of every byte
 

@@ -1,6 +1,6 @@
 pub mod Read
 pub mod Files
-pub mod Listed
+pub mod Extent
 pub mod Words
-pub mod Asked
+pub mod Answers
 pub mod Parts

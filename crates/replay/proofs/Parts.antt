@@ -1,5 +1,5 @@
--- A body's parts and the verdict on them. `told-done`, `told-stopped`: a run on a copy of the file is the run of the body. `parts-are`: where the parts
--- stand in the body. Assumes nothing.
+-- A body's parts and the verdict on them. `done-verdict`, `stopped-verdict`: a run on a copy of the file is the run of the body. `cut-parts`: where the
+-- code cuts them they have their sizes. `verdict-judged`, `verdict-refused`: the verdict on them is the body's. Assumes nothing.
 use mathlib.Core.Path.{_≡_, refl, sym, ap, ap₂, _∙_}
 use mathlib.Core.List.{List, [], _∷_}
 use mathlib.Core.Bool.{Bool, true, false, _&&_}
@@ -14,13 +14,13 @@ use Rattle.isa.specs.Run.{Outcome, outcomeOf}
 use Rattle.isa.specs.declared.types.Ending.{Ending}
 use Rattle.isa.specs.declared.types.Ran.{Ran}
 use Rattle.isa.proofs.types.Ending.{the-type}
-use Rattle.trace.specs.Verdict.{Body, partsOf, isFlag, flagOf, flags, compared, ended, besides, verdictOf}
+use Rattle.trace.specs.Verdict.{Body, partsOf, isFlag, flagOf, flags, compared, endedVerdict, besides, verdictOf}
 use Rattle.trace.specs.declared.types.Verdict.{Verdict}
 use Rattle.replay.specs.Body.{Whole, Parts, stoppedOf}
 
 -- ---- the run, beside what was recorded
 
-stopped-as : (o : Outcome) (after : Bool) (left : List ℕ) (e : Ending) → OneOf (1 ∷ 2 ∷ 3 ∷ 4 ∷ 5 ∷ 6 ∷ []) (tagOf the-type e) → stoppedOf e (o .answer .done) ≡ ended e o after left
+stopped-as : (o : Outcome) (after : Bool) (left : List ℕ) (e : Ending) → OneOf (1 ∷ 2 ∷ 3 ∷ 4 ∷ 5 ∷ 6 ∷ []) (tagOf the-type e) → stoppedOf e (o .answer .done) ≡ endedVerdict e o after left
 stopped-as o after left Ending.Done h = absurd (miss (1 ∷ 2 ∷ 3 ∷ 4 ∷ 5 ∷ 6 ∷ []) 0 tt h)
 stopped-as o after left Ending.BadLength h = refl
 stopped-as o after left Ending.NotPowerOfTwo h = refl
@@ -34,14 +34,14 @@ module _ (L : ℕ) (before : Bool) (file words : List ℕ) (after : Bool) (left 
   abbrev ours : Outcome
   ours = record { answer = r; file = now }
 
-  beside : ended (r .ending) ours after left ≡ besides (outcomeOf L file before (wordsOf words)) after left
+  beside : endedVerdict (r .ending) ours after left ≡ besides (outcomeOf L file before (wordsOf words)) after left
   beside = ap (λ (o : Outcome). besides o after left) (ran ∙ ap (λ (f : List ℕ). outcomeOf L f before (wordsOf words)) same)
 
-  pub told-stopped : OneOf (1 ∷ 2 ∷ 3 ∷ 4 ∷ 5 ∷ 6 ∷ []) (tagOf the-type (r .ending)) → stoppedOf (r .ending) (r .done) ≡ besides (outcomeOf L file before (wordsOf words)) after left
-  told-stopped h = stopped-as ours after left (r .ending) h ∙ beside
+  pub stopped-verdict : OneOf (1 ∷ 2 ∷ 3 ∷ 4 ∷ 5 ∷ 6 ∷ []) (tagOf the-type (r .ending)) → stoppedOf (r .ending) (r .done) ≡ besides (outcomeOf L file before (wordsOf words)) after left
+  stopped-verdict h = stopped-as ours after left (r .ending) h ∙ beside
 
-  pub told-done : r .ending ≡ Ending.Done → (v : Verdict) → v ≡ flags (r .qc) after → compared 0 now left v ≡ besides (outcomeOf L file before (wordsOf words)) after left
-  told-done e v f = ap (compared 0 now left) f ∙ ap (λ (d : Ending). ended d ours after left) (sym e) ∙ beside
+  pub done-verdict : r .ending ≡ Ending.Done → (v : Verdict) → v ≡ flags (r .qc) after → compared 0 now left v ≡ besides (outcomeOf L file before (wordsOf words)) after left
+  done-verdict e v f = ap (compared 0 now left) f ∙ ap (λ (d : Ending). endedVerdict d ours after left) (sym e) ∙ beside
 
 -- ---- where they stand
 

@@ -19,9 +19,9 @@ use Rattle.isa.proofs.Going.{Going, going-starts, going-ends, outcome-runs}
 use Rattle.isa.proofs.types.Ending.{the-type}
 use Rattle.regfile.specs.Sweep.{Held}
 use Rattle.trace.proofs.Pieces.{piece-on, piece-stops, piece-count}
-use Rattle.replay.specs.Body.{Taken}
+use Rattle.replay.specs.Body.{WordsFrom}
 
-pub words-taken : (bytes words : List ℕ) (i n at : ℕ) → i + n ≤ length bytes / 4 → at ≡ i * 4 → Taken bytes at n words →
+pub words-taken : (bytes words : List ℕ) (i n at : ℕ) → i + n ≤ length bytes / 4 → at ≡ i * 4 → WordsFrom bytes at n words →
     take n words ≡ take n (drop i (wordsOf bytes))
 words-taken bytes words i n at m e taken =
     let size : length (take n words) ≡ n = simp length-take (omega (arith, taken .there)) in
@@ -49,7 +49,7 @@ module _ (L : ℕ) (file : List ℕ) (qc : Bool) (bytes : List ℕ) (held : Held
   program-ends now flag done g l = whole (going-ends L (wordsOf bytes) (start file qc) (record { file = now; qc = flag; done = done }) done g (omega (arith, words-length bytes)))
 
   module _ (now : List ℕ) (flag : Bool) (done : ℕ) (g : Running now flag done) (n : ℕ) (words : List ℕ) (few : n ≤ 16)
-      (more : done + n ≤ length bytes / 4) (at : ℕ) (place : at ≡ done * 4) (taken : Taken bytes at n words) (r : Ran) (left : List ℕ)
+      (more : done + n ≤ length bytes / 4) (at : ℕ) (place : at ≡ done * 4) (taken : WordsFrom bytes at n words) (r : Ran) (left : List ℕ)
       (ran : record { answer = r; file = left } ≡ outcomeOf L now flag (take n words)) where
     here : record { answer = r; file = left } ≡ outcomeOf L now flag (take n (drop done (wordsOf bytes)))
     here = ran ∙ ap (outcomeOf L now flag) (words-taken bytes words done n at more place taken)

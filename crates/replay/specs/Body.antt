@@ -34,7 +34,7 @@ stoppedOf Ending.BadSize k = Verdict.BadFlag
 stoppedOf Ending.TooLong k = Verdict.BadFlag
 
 -- the first n words are those from a place on
-pub record Taken (bytes : List ℕ) (at n : ℕ) (words : List ℕ) : Type 0 where
+pub record WordsFrom (bytes : List ℕ) (at n : ℕ) (words : List ℕ) : Type 0 where
   pub there : n ≤ length words
   pub each : (i : ℕ) → i < n → getD words i 0 ≡ wordAt bytes (at + 4 * i)
 

@@ -13,7 +13,7 @@ use isa::types::Ending;
 use trace::types::Verdict;
 
 // The longest file: 32 registers of 2,048 bits.
-const LONGEST: usize = 8192;
+const LONGEST_FILE: usize = 8192;
 
 // Copies a file.
 fn load(image: &mut [u8], file: &[u8])
@@ -36,7 +36,8 @@ fn flags(left: bool, after: bool) -> Verdict
     }
 }
 
-// What is said of a run that stopped, which is not compared. No other ending is met: the contents are checked.
+// What is said of a run that stopped, which is not compared. No other ending is met: `replayed_on` has seen that it is not Done, and the contents are
+// checked.
 fn stopped(ending: Ending, done: usize) -> Verdict
     ensures { λ r. ⌜ r ≡ stoppedOf ending done ⌝ }
 {
@@ -79,12 +80,12 @@ fn replayed(l: usize, before: bool, file: &[u8], words: &[u8], after: bool, left
     requires { ⌜ Parts l (now file) (now words) (now left) ⌝ }
     ensures { λ r. ⌜ r ≡ besides (outcomeOf l (now (file .entry)) before (wordsOf (now (words .entry)))) after (now (left .entry)) ⌝ }
 {
-    let mut image = [0u8; LONGEST];
+    let mut image = [0u8; LONGEST_FILE];
     let size = l << 2;
     replayed_on(&mut image[..size], l, before, file, words, after, left)
 }
 
-// The verdict of a body of length l and w words. `case_verdict` has checked both, and the body's size.
+// The verdict of a body of length l and w words. `check` has seen that both are allowed, and `case_verdict` cuts out as many bytes as they ask for.
 pub fn verdict(l: usize, w: usize, body: &[u8]) -> Verdict
     requires { ⌜ Whole l w (now body) ⌝ }
     ensures { λ r. ⌜ r ≡ verdictOf l w (now (body .entry)) ⌝ }

@@ -3,7 +3,7 @@ ghost use mathlib.Core.Path.{_≡_};
 ghost use Prim.Native.Nat.{_+_, _*_, _<_, _≤_};
 ghost use Rattle.trace.specs.Trace.{bodySize};
 ghost use Rattle.trace.specs.Verdict.{caseOf, acceptedOf, judgeOf};
-ghost use Rattle.replay.specs.Listed.{bodyEnd, entryOf, entriesOf, countOf, Counted, Asked};
+ghost use Rattle.replay.specs.Extent.{bodyEnd, entryOf, entriesOf, countOf, Counted, CaseThere};
 use crate::body::verdict;
 use crate::reader::Read;
 use crate::reader::read_number;
@@ -14,10 +14,10 @@ use trace::types::Judged;
 use trace::types::Verdict;
 
 // The longest trace: 64 KiB.
-const LONGEST: usize = 65536;
+const LONGEST_TRACE: usize = 65536;
 
-// Where the bodies end that are listed so far, or contents that are refused.
-pub enum Listed {
+// Where the bodies end whose entries are read so far, or contents that are refused.
+pub enum Extent {
     Ends(usize),
     Refused,
 }
@@ -44,48 +44,48 @@ fn body_size(l: usize, w: usize) -> usize
 }
 
 // The end of a body that starts at `due`, if its length, its word count and its start are allowed.
-fn body_end(l: usize, w: usize, start: usize, due: usize) -> Listed
+fn body_end(l: usize, w: usize, start: usize, due: usize) -> Extent
     requires { ⌜ due ≤ 0x400_0000 ⌝ }
     ensures { λ r. ⌜ r ≡ bodyEnd l w start due ⌝ }
 {
     if is_legal(l) & ((w <= 4096) & (start == due)) {
-        return Listed::Ends(due + body_size(l, w));
+        return Extent::Ends(due + body_size(l, w));
     }
-    Listed::Refused
+    Extent::Refused
 }
 
 // The entry of case k, whose body has to start at `due`.
-fn entry(trace: &[u8], k: usize, due: usize) -> Listed
+fn entry(trace: &[u8], k: usize, due: usize) -> Extent
     requires { ⌜ (k < 1024) × (due ≤ 0x400_0000) ⌝ }
     ensures { λ r. ⌜ r ≡ entryOf (now (trace .entry)) k due ⌝ }
 {
     let at = entry_place(k);
     let Read::Number(l) = read_number(trace, at) else {
-        return Listed::Refused;
+        return Extent::Refused;
     };
     let Read::Number(w) = read_number(trace, at + 4) else {
-        return Listed::Refused;
+        return Extent::Refused;
     };
     let Read::Number(start) = read_number(trace, at + 8) else {
-        return Listed::Refused;
+        return Extent::Refused;
     };
     body_end(wide(l), wide(w), wide(start), due)
 }
 
 // All entries. `check` has read their number.
-fn entries(trace: &[u8], cases: usize) -> Listed
+fn entries(trace: &[u8], cases: usize) -> Extent
     requires { ⌜ Counted (now trace) cases ⌝ }
     ensures { λ r. ⌜ r ≡ entriesOf (now (trace .entry)) ⌝ }
 {
     let mut due = entry_place(cases);
     for k in 0..cases {
-        let listed = entry(trace, k, due);
-        let Listed::Ends(end) = listed else {
-            return Listed::Refused;
+        let extent = entry(trace, k, due);
+        let Extent::Ends(end) = extent else {
+            return Extent::Refused;
         };
         due = end;
     }
-    Listed::Ends(due)
+    Extent::Ends(due)
 }
 
 // The number of cases; 0 where it is cut short or too large.
@@ -106,11 +106,11 @@ pub fn check(trace: &[u8]) -> Accepted
     if cases == 0 {
         return Accepted::BadContents;
     }
-    let listed = entries(trace, cases);
-    let Listed::Ends(total) = listed else {
+    let extent = entries(trace, cases);
+    let Extent::Ends(total) = extent else {
         return Accepted::BadContents;
     };
-    if (trace.len() <= LONGEST) & (trace.len() == total) {
+    if (trace.len() <= LONGEST_TRACE) & (trace.len() == total) {
         return Accepted::Cases(cases);
     }
     Accepted::BadTotal
@@ -118,7 +118,7 @@ pub fn check(trace: &[u8]) -> Accepted
 
 // The verdict of a case. `judge` has checked the trace and the number.
 fn case_verdict(trace: &[u8], n: usize) -> Verdict
-    requires { ⌜ Asked (now trace) n ⌝ }
+    requires { ⌜ CaseThere (now trace) n ⌝ }
     ensures { λ r. ⌜ r ≡ caseOf (now (trace .entry)) n ⌝ }
 {
     let at = entry_place(n);

@@ -5,7 +5,7 @@ ghost use lib.ListN.{length};
 ghost use Rattle.isa.specs.Bytes.{wordsOf};
 ghost use Rattle.isa.specs.Run.{outcomeOf};
 ghost use Rattle.regfile.specs.Sweep.{Held};
-ghost use Rattle.replay.specs.Body.{Taken};
+ghost use Rattle.replay.specs.Body.{WordsFrom};
 use codec::word_at;
 use exec::run;
 use isa::types::Ending;
@@ -17,7 +17,7 @@ const TAKEN: usize = 16;
 // The n words from a place on, and zeros.
 fn words_at(bytes: &[u8], at: usize, n: usize) -> [u32; TAKEN]
     requires { ⌜ (n ≤ 16) × (at + 4 * n ≤ length (now bytes)) ⌝ }
-    ensures { λ r. ⌜ Taken (now (bytes .entry)) at n r ⌝ }
+    ensures { λ r. ⌜ WordsFrom (now (bytes .entry)) at n r ⌝ }
 {
     let mut words = [0u32; TAKEN];
     for i in 0..n {

@@ -44,7 +44,7 @@ pub fn next<'a>(r: Reader<'a>) -> Read
     number_at(r.trace, r.at)
 }
 
-// The same with plain parameters, for callers that hold no reader.
+// The same with plain parameters; all callers read through it.
 pub fn read_number(trace: &[u8], at: usize) -> Read
     ensures { λ r. ⌜ r ≡ numberAt (now (trace .entry)) at ⌝ }
 {

@@ -1,6 +1,6 @@
-// Checks the stored traces of standard input, and prints what comes of each case asked for. A record begins with three little-endian numbers of 4 bytes: a kind, a and b.
-// Kind 1 puts the b bytes that follow into a buffer, from place a on. It has 65,600 bytes, zero at first, and lasts from record to record.
-// Kind 2 asks for case b of the trace that the first a bytes are, and prints the check's number and number of cases, and the judgement's number, kind, place and the byte that the run leaves there.
+// Checks the stored traces of standard input, and prints what comes of each case asked for. A record begins with three little-endian numbers of 4 bytes: 1 or 2, a and b.
+// 1 puts the b bytes that follow into a buffer, from place a on. It has 65,600 bytes, zero at first, and lasts from record to record.
+// 2 asks for case b of the trace that the first a bytes are, and prints the check's number and number of cases, and the judgement's number, kind, place and the byte that the run leaves there.
 use codec::word_at;
 use libc::STDIN_FILENO;
 use libc::STDOUT_FILENO;

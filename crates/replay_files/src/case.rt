@@ -2,7 +2,7 @@
 use crate::contents::Case;
 use crate::contents::after_place;
 use crate::contents::case_at;
-use crate::contents::number_at;
+use crate::contents::number_or_zero;
 use crate::contents::words_place;
 use text::put_byte;
 use text::put_hex;
@@ -19,7 +19,7 @@ fn byte_after(trace: &[u8], case: Case, i: usize) -> u8 {
 
 // Word n of a case, and 0 past the trace's end. No case has more than 4,096 words.
 fn word_of(trace: &[u8], case: Case, n: usize) -> u32 {
-    number_at(trace, words_place(case) + (n % 4096 << 2))
+    number_or_zero(trace, words_place(case) + (n % 4096 << 2))
 }
 
 // The register that byte i of the file lies in, and the byte's place there.
@@ -49,7 +49,7 @@ fn put_file_differs(
 
 // Both flags are 0 or 1, so the one that the run leaves is the other.
 fn put_flag_differs(out: &mut [u8], at: usize, trace: &[u8], case: Case) -> usize {
-    if number_at(trace, after_place(case)) == 0 {
+    if number_or_zero(trace, after_place(case)) == 0 {
         return put_text(out, at, b"flag differs\texpected 1\tfound 0");
     }
     put_text(out, at, b"flag differs\texpected 0\tfound 1")
@@ -71,8 +71,8 @@ fn put_stopped(
 }
 
 fn put_bad_flag(out: &mut [u8], at: usize, trace: &[u8], case: Case) -> usize {
-    let before = number_at(trace, case.start as usize);
-    let after = number_at(trace, after_place(case));
+    let before = number_or_zero(trace, case.start as usize);
+    let after = number_or_zero(trace, after_place(case));
     let told = put_number(out, at, b"bad flag\tbefore ", before as u64);
     put_number(out, told, b"\tafter ", after as u64)
 }

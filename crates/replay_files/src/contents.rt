@@ -23,7 +23,7 @@ pub enum Found {
 }
 
 // The number at a place, and 0 past the end.
-pub fn number_at(trace: &[u8], at: usize) -> u32 {
+pub fn number_or_zero(trace: &[u8], at: usize) -> u32 {
     let Read::Number(n) = read_number(trace, at) else {
         return 0;
     };
@@ -41,9 +41,9 @@ pub fn entry_place(k: u32) -> usize
 pub fn case_at(trace: &[u8], k: u32) -> Case {
     let at = entry_place(k);
     Case {
-        bits: number_at(trace, at),
-        words: number_at(trace, at + 4),
-        start: number_at(trace, at + 8),
+        bits: number_or_zero(trace, at),
+        words: number_or_zero(trace, at + 4),
+        start: number_or_zero(trace, at + 8),
     }
 }
 

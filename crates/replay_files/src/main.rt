@@ -8,7 +8,7 @@ mod name;
 mod refusal;
 
 use crate::case::put_case;
-use crate::contents::number_at;
+use crate::contents::number_or_zero;
 use crate::name::put_name;
 use crate::refusal::put_refusal;
 use libc::STDERR_FILENO;
@@ -67,7 +67,7 @@ fn agreeing(verdict: Verdict) -> u32
 
 // The lines of all cases, each from `start` on in a line that begins with the name.
 fn tell_cases(trace: &[u8], line: &mut [u8], start: usize) {
-    let cases = number_at(trace, 0);
+    let cases = number_or_zero(trace, 0);
     let mut agree: u32 = 0;
     for k in 0..cases {
         let judged = replay::judge(trace, k as usize);

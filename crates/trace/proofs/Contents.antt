@@ -1,5 +1,5 @@
 -- The table of contents. `contents-exact`: it is allowed exactly where it is whole, its number of cases is, and each entry is. `begins-short`: a body
--- starts within a bound. `body-within`: in an accepted trace each body ends within it. Assumes nothing.
+-- starts within a bound. `body-within`: each body ends at or before the end of the last. Assumes nothing.
 use mathlib.Core.Path.{_≡_, refl, sym, _∙_}
 use mathlib.Core.Logic.{_↔_}
 use mathlib.Core.List.{List}
@@ -12,7 +12,7 @@ use lib.ListN.{length}
 use borrow.Author.Tests.{leb-true, eqb-true, eqb-false, le-leb, eq-eqb}
 use Rattle.isa.proofs.File.{legal-exact, cases}
 use Rattle.isa.proofs.Fields.{and-left, and-right}
-use Rattle.trace.specs.Trace.{casesOf, lengthAt, wordsAt, contentsSize, bodySize, begins, totalOf, fieldAllowed, numberAllowed, allowed, contentsAllowed, totalAllowed}
+use Rattle.trace.specs.Trace.{casesOf, lengthAt, countAt, contentsSize, bodySize, begins, totalOf, fieldAllowed, numberAllowed, allowed, contentsAllowed, totalAllowed}
 use Rattle.trace.specs.Returned.{EntryAllowed, ContentsAllowed, TotalAllowed}
 
 pub and-both : {a b : Bool} → a ≡ true → b ≡ true → (a && b) ≡ true
@@ -110,6 +110,6 @@ module _ (t : List ℕ) where
       let e : k + (m - k) ≡ m = omega arith in
       rw e at (begins-more k (m - k))
 
-  pub body-within : (k : ℕ) → k < casesOf t → begins t k + bodySize (lengthAt t k) (wordsAt t k) ≤ totalOf t
+  pub body-within : (k : ℕ) → k < casesOf t → begins t k + bodySize (lengthAt t k) (countAt t k) ≤ totalOf t
   unfolding begins
   body-within k l = begins-mono (suc k) (casesOf t) (omega arith)

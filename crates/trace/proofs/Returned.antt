@@ -1,4 +1,4 @@
--- Request A9's numbers and verdicts, exactly: `check-exact` (a trace), `case-exact` (a case of an accepted trace) and `judge-exact` (a case asked for).
+-- Request A9's numbers and verdicts, exactly: `accept-exact` (a trace), `case-exact` (a case of an accepted trace) and `judge-exact` (a case asked for).
 -- `verdict-exact`: the verdict on any body whose parts have their sizes. `case-runs`: document 01's run of a case is never refused. `number-small`,
 -- `kind-small`, `place-small`: how large the answers are. Assumes nothing.
 use mathlib.Core.Path.{_≡_, refl, sym, ap, ap₂, _∙_, subst}
@@ -22,7 +22,7 @@ use Rattle.isa.proofs.Returned.{call-exact}
 use Rattle.trace.specs.Trace.{casesOf, lengthAt}
 use Rattle.trace.specs.Verdict.{Body, isFlag, flagOf, flags, compared, verdictOn, verdictOf, caseOf, acceptedOf, judgeOf}
 use Rattle.trace.specs.Number.{verdictKind, verdictPlace, acceptedNumber, acceptedCases, judgedNumber, judgedKind, judgedPlace}
-use Rattle.trace.specs.Returned.{ContentsAllowed, TotalAllowed, CheckReturns, ChecksAs, FlagsAllowed, Runs, CaseReturns, bodyAt, JudgeReturns, JudgesAs}
+use Rattle.trace.specs.Returned.{ContentsAllowed, TotalAllowed, AcceptReturns, AcceptsAs, FlagsAllowed, BodyRuns, RunEnds, NotRefused, runOf, CaseReturns, bodyAt, JudgeReturns, JudgesAs}
 use Rattle.trace.specs.declared.types.Verdict.{Verdict}
 use Rattle.trace.proofs.Contents.{and-both, refused, contents-exact, total-exact}
 use Rattle.trace.proofs.Compared.{compared-same, compared-differs, first-difference}
@@ -41,41 +41,33 @@ exactly said some x y = let e = said _ _ (some .2) in ((λ h. rw (← h .0, ← 
 -- ---- the check of a trace
 
 module _ (t : List ℕ) where
-  checks : {n cases : ℕ} → CheckReturns t n cases → ChecksAs t n cases
+  checks : {n cases : ℕ} → AcceptReturns t n cases → AcceptsAs t n cases
   unfolding acceptedOf
-  checks (CheckReturns.accepted c a) = rw (contents-exact t .1 c, total-exact t .1 a) (refl, refl)
-  checks (CheckReturns.bad-contents bad) = rw (refused (contents-exact t) bad) (refl, refl)
-  checks (CheckReturns.bad-total c bad) = rw (contents-exact t .1 c, refused (total-exact t) bad) (refl, refl)
+  checks (AcceptReturns.accepted c a) = rw (contents-exact t .1 c, total-exact t .1 a) (refl, refl)
+  checks (AcceptReturns.bad-contents bad) = rw (refused (contents-exact t) bad) (refl, refl)
+  checks (AcceptReturns.bad-total c bad) = rw (contents-exact t .1 c, refused (total-exact t) bad) (refl, refl)
 
-  checked : (n : ℕ) × (cases : ℕ) × CheckReturns t n cases
+  checked : (n : ℕ) × (cases : ℕ) × AcceptReturns t n cases
   checked =
       decided (contents-exact t)
-      (λ c. decided (total-exact t) (λ a. (0, casesOf t, CheckReturns.accepted c a)) (λ bad. (16, 0, CheckReturns.bad-total c bad)))
-      (λ bad. (15, 0, CheckReturns.bad-contents bad))
+      (λ c. decided (total-exact t) (λ a. (0, casesOf t, AcceptReturns.accepted c a)) (λ bad. (16, 0, AcceptReturns.bad-total c bad)))
+      (λ bad. (15, 0, AcceptReturns.bad-contents bad))
 
-  pub check-exact : (n cases : ℕ) → ChecksAs t n cases ↔ CheckReturns t n cases
-  check-exact = exactly (λ n cases. checks) checked
+  pub accept-exact : (n cases : ℕ) → AcceptsAs t n cases ↔ AcceptReturns t n cases
+  accept-exact = exactly (λ n cases. checks) checked
 
 -- ---- a run that is not refused: its number and its ending
 
-pub data RunEnds : ℕ → Ending → Type 0 where
-  done : RunEnds 0 Ending.Done
-  outside : RunEnds 4 Ending.Outside
-  reserved : RunEnds 5 Ending.Reserved
-
-abbrev pub NotRefused : Outcome → Type 0
-NotRefused o = RunEnds (runNumber o) (o .answer .ending)
-
 ends-same : {n : ℕ} {e d : Ending} → RunEnds n e → RunEnds n d → e ≡ d
-ends-same done done = refl
-ends-same outside outside = refl
-ends-same reserved reserved = refl
+ends-same RunEnds.done RunEnds.done = refl
+ends-same RunEnds.outside RunEnds.outside = refl
+ends-same RunEnds.reserved RunEnds.reserved = refl
 
 ends-known : {words : List ℕ} {n : ℕ} {e : Ending} → Ends words n e → RunEnds (endingNumber e) e
 unfolding endingNumber
-ends-known (Ends.all h) = done
-ends-known (Ends.stop Stop.outside l h) = outside
-ends-known (Ends.stop Stop.reserved l h) = reserved
+ends-known (Ends.all h) = RunEnds.done
+ends-known (Ends.stop Stop.outside l h) = RunEnds.outside
+ends-known (Ends.stop Stop.reserved l h) = RunEnds.reserved
 
 -- ---- the flags
 
@@ -102,9 +94,6 @@ flags-other false false other = absurd (other refl)
 
 -- ---- the verdict on a body whose parts have their sizes
 
-abbrev pub runOf : ℕ → Body → Outcome
-runOf L b = outcomeOf L (b .file) (flagOf (b .before)) (b .words)
-
 module _ (L : ℕ) (b : Body) (z : Sized L b) where
   run-known : runOf L b ≡ run L (b .words) (start (b .file) (flagOf (b .before)))
   run-known = run-otherwise L _ _ _ (z .ok) (z .file) (z .words)
@@ -112,45 +101,45 @@ module _ (L : ℕ) (b : Body) (z : Sized L b) where
   pub not-refused : NotRefused (runOf L b)
   not-refused = rw run-known (ends-known (run-ends L (b .words) (b .file) (flagOf (b .before)) .1))
 
-  answered : {n : ℕ} {s : State} → Runs L b n s → RunsAs L (b .file) (flagOf (b .before)) (b .words) n s
+  answered : {n : ℕ} {s : State} → BodyRuns L b n s → RunsAs L (b .file) (flagOf (b .before)) (b .words) n s
   answered = call-exact L _ _ _ _ _ .1
 
-  outcome-known : {n : ℕ} {e : Ending} {s : State} → RunEnds n e → Runs L b n s → runOf L b ≡ ended e s
+  outcome-known : {n : ℕ} {e : Ending} {s : State} → RunEnds n e → BodyRuns L b n s → runOf L b ≡ ended e s
   outcome-known h r = ap₂ ended (ends-same (subst (λ n. RunEnds n (runOf L b .answer .ending)) (answered r .0) not-refused) h) (answered r .1)
 
-  run-sizes : {n : ℕ} {s : State} → Runs L b n s → (length (s .file) ≡ 4 * L) × (s .done ≤ length (b .words))
+  run-sizes : {n : ℕ} {s : State} → BodyRuns L b n s → (length (s .file) ≡ 4 * L) × (s .done ≤ length (b .words))
   run-sizes r =
       subst (λ (s : State). (length (s .file) ≡ 4 * L) × (s .done ≤ length (b .words))) (ap runLeft (sym run-known) ∙ answered r .1)
       (run-kept L (b .words) _ (z .file), run-count L (b .words) _ _ .0)
 
   -- after a run of all the words the files are compared
-  done-compared : {s : State} → FlagsAllowed b → Runs L b 0 s → verdictOn L b ≡ compared 0 (s .file) (b .left) (flags (s .qc) (flagOf (b .after)))
-  done-compared f r = rw (flags-exact b .1 f, outcome-known done r)
+  done-compared : {s : State} → FlagsAllowed b → BodyRuns L b 0 s → verdictOn L b ≡ compared 0 (s .file) (b .left) (flags (s .qc) (flagOf (b .after)))
+  done-compared f r = rw (flags-exact b .1 f, outcome-known RunEnds.done r)
 
-  done-same : {s : State} → FlagsAllowed b → Runs L b 0 s → s .file ≡ b .left → verdictOn L b ≡ flags (s .qc) (flagOf (b .after))
+  done-same : {s : State} → FlagsAllowed b → BodyRuns L b 0 s → s .file ≡ b .left → verdictOn L b ≡ flags (s .qc) (flagOf (b .after))
   done-same f r same = done-compared f r ∙ rw same (compared-same _ (b .left) (b .left) 0 refl (λ i l. refl))
 
   returns : {kind place : ℕ} → CaseReturns L b kind place → (verdictKind (verdictOn L b) ≡ kind) × (verdictPlace (verdictOn L b) ≡ place)
   returns (CaseReturns.bad-flag bad) = rw (refused (flags-exact b) bad) (refl, refl)
-  returns (CaseReturns.outside s f r) = rw (flags-exact b .1 f, outcome-known outside r) (refl, refl)
-  returns (CaseReturns.reserved s f r) = rw (flags-exact b .1 f, outcome-known reserved r) (refl, refl)
+  returns (CaseReturns.outside s f r) = rw (flags-exact b .1 f, outcome-known RunEnds.outside r) (refl, refl)
+  returns (CaseReturns.reserved s f r) = rw (flags-exact b .1 f, outcome-known RunEnds.reserved r) (refl, refl)
   returns (CaseReturns.file-differs s i f r d) =
       rw (done-compared f r, compared-differs _ (s .file) (b .left) 0 i (z .left ∙ sym (run-sizes r .0)) (d .within) (d .earlier) (d .here)) (refl, omega arith)
   returns (CaseReturns.flag-differs s f r same other) = rw (done-same f r same, flags-other _ _ other) (refl, refl)
   returns (CaseReturns.agrees s f r same flag) = rw (done-same f r same, flag, flags-same (flagOf (b .after))) (refl, refl)
 
-  by-flag : {s : State} → FlagsAllowed b → Runs L b 0 s → s .file ≡ b .left → Dec (s .qc ≡ flagOf (b .after)) →
+  by-flag : {s : State} → FlagsAllowed b → BodyRuns L b 0 s → s .file ≡ b .left → Dec (s .qc ≡ flagOf (b .after)) →
       (kind : ℕ) × (place : ℕ) × CaseReturns L b kind place
   by-flag {s} f r same (yes flag) = (1, 0, CaseReturns.agrees s f r same flag)
   by-flag {s} f r same (no other) = (3, 0, CaseReturns.flag-differs s f r same other)
 
-  by-ending : {n : ℕ} {e : Ending} {s : State} → FlagsAllowed b → RunEnds n e → Runs L b n s → (kind : ℕ) × (place : ℕ) × CaseReturns L b kind place
-  by-ending {s = s} f done r =
+  by-ending : {n : ℕ} {e : Ending} {s : State} → FlagsAllowed b → RunEnds n e → BodyRuns L b n s → (kind : ℕ) × (place : ℕ) × CaseReturns L b kind place
+  by-ending {s = s} f RunEnds.done r =
       first-difference (s .file) (b .left) (run-sizes r .0 ∙ sym (z .left))
       (λ same. by-flag f r same (Bool-discrete (s .qc) (flagOf (b .after))))
       (λ i d. (2, i, CaseReturns.file-differs s i f r d))
-  by-ending {s = s} f outside r = (4, s .done, CaseReturns.outside s f r)
-  by-ending {s = s} f reserved r = (5, s .done, CaseReturns.reserved s f r)
+  by-ending {s = s} f RunEnds.outside r = (4, s .done, CaseReturns.outside s f r)
+  by-ending {s = s} f RunEnds.reserved r = (5, s .done, CaseReturns.reserved s f r)
 
   returned : (kind : ℕ) × (place : ℕ) × CaseReturns L b kind place
   returned =
@@ -192,13 +181,13 @@ module _ (t : List ℕ) (k : ℕ) where
       let e = case-exact t c a k l kind place .1 r in
       rw (contents-exact t .1 c, total-exact t .1 a, lt-ltb k (casesOf t) l) (refl, e .0, e .1)
 
-  by-check : {m cases : ℕ} → CheckReturns t m cases → (n : ℕ) × (kind : ℕ) × (place : ℕ) × JudgeReturns t k n kind place
-  by-check (CheckReturns.accepted c a) =
+  by-check : {m cases : ℕ} → AcceptReturns t m cases → (n : ℕ) × (kind : ℕ) × (place : ℕ) × JudgeReturns t k n kind place
+  by-check (AcceptReturns.accepted c a) =
       cases (ltb k (casesOf t))
       (λ h. let l = ltb-true _ _ h in (0, _, _, JudgeReturns.judged _ _ c a l (case-exact t c a k l _ _ .0 (refl, refl))))
       (λ h. (22, 0, 0, JudgeReturns.no-case c a (ltb-false _ _ h)))
-  by-check (CheckReturns.bad-contents bad) = (15, 0, 0, JudgeReturns.bad-contents bad)
-  by-check (CheckReturns.bad-total c bad) = (16, 0, 0, JudgeReturns.bad-total c bad)
+  by-check (AcceptReturns.bad-contents bad) = (15, 0, 0, JudgeReturns.bad-contents bad)
+  by-check (AcceptReturns.bad-total c bad) = (16, 0, 0, JudgeReturns.bad-total c bad)
 
   pub judge-exact : (n kind place : ℕ) → JudgesAs t k n kind place ↔ JudgeReturns t k n kind place
   judge-exact n kind place =

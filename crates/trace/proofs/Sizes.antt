@@ -8,7 +8,7 @@ use native.Mathlib.Omega.{arith}
 use lib.ListN.{length, length-take, length-drop}
 use Rattle.isa.specs.File.{legal}
 use Rattle.isa.proofs.Bytes.{words-length}
-use Rattle.trace.specs.Trace.{casesOf, lengthAt, wordsAt, bodySize, bodyOf}
+use Rattle.trace.specs.Trace.{casesOf, lengthAt, countAt, bodySize, bodyOf}
 use Rattle.trace.specs.Verdict.{Body, partsOf}
 use Rattle.trace.specs.Returned.{ContentsAllowed, TotalAllowed, bodyAt}
 use Rattle.trace.proofs.Contents.{body-within}
@@ -30,7 +30,7 @@ parts-sized L W body ok few size = record {
 }
 
 module _ (t : List ℕ) (c : ContentsAllowed t) (a : TotalAllowed t) (k : ℕ) (l : k < casesOf t) where
-  pub body-length : length (bodyOf t k) ≡ bodySize (lengthAt t k) (wordsAt t k)
+  pub body-length : length (bodyOf t k) ≡ bodySize (lengthAt t k) (countAt t k)
   unfolding bodyOf
   body-length = simp (length-take, length-drop) (omega (arith, body-within t k l, c .entries k l .start))
 

@@ -12,7 +12,7 @@ use lib.Seq.{take-length, append-snoc, getD-drop, drop-drop, take-at, drop-at}
 use Rattle.isa.specs.Bytes.{wordOf, wordAt, wordsOf}
 use Rattle.isa.specs.File.{legal}
 use Rattle.isa.proofs.File.{legal-exact}
-use Rattle.trace.specs.Trace.{casesOf, lengthAt, wordsAt, startAt, contentsSize, bodySize, begins, totalOf, bodyOf}
+use Rattle.trace.specs.Trace.{casesOf, lengthAt, countAt, startAt, contentsSize, bodySize, begins, totalOf, bodyOf}
 use Rattle.trace.specs.Verdict.{partsOf, acceptedOf}
 use Rattle.trace.specs.Returned.{EntryAllowed}
 use Rattle.trace.specs.Recorded.{Recording, fourOf, foursOf, flagNumber, bodyBytes, entryBytes, entriesFrom, bodiesOf, traceOf}
@@ -193,7 +193,7 @@ module _ (rs : List Recording) (all : AllRecordable rs) where
     unfolding entryBytes fourOf wordAt
     read-bits = entry-word 0 (4 + 12 * k) (omega arith) ∙ four-bytes (r .bits) (omega (arith, legal-exact _ .0 (ok .ok) .most))
 
-    read-count : wordsAt t k ≡ length (r .words)
+    read-count : countAt t k ≡ length (r .words)
     unfolding entryBytes fourOf wordAt
     read-count = entry-word 4 (8 + 12 * k) (omega arith) ∙ four-bytes (length (r .words)) (omega (arith, ok .few))
 

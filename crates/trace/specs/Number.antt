@@ -5,7 +5,7 @@ use Rattle.trace.specs.declared.types.Verdict.{Verdict}
 use Rattle.trace.specs.declared.types.Accepted.{Accepted}
 use Rattle.trace.specs.declared.types.Judged.{Judged}
 
--- ---- a verdict: its kind, and the place: a byte of the file, or a word
+-- ---- a verdict: its kind, and the place: a byte of the file, or a word. The byte beside a place that differs is the run's (`compared`; `compared-differs`)
 
 abbrev pub verdictKind : Verdict → ℕ
 verdictKind Verdict.Agrees = 1

@@ -1,5 +1,5 @@
--- Traces as the recorders of request A9 write them: the bytes of a list of recordings, and what is to be said of each case of such a trace. The theorem
--- `recorded` (proofs/Recorded.antt) says that it is.
+-- Traces as the recorders of request A9 write them: the bytes of a list of recordings, and what is to be said of a case that is as the run leaves it, of
+-- one with a byte or the flag after changed, and of one whose run stops. The theorem `recorded` (proofs/Recorded.antt) says that it is.
 use mathlib.Core.Path.{_≡_}
 use mathlib.Core.Option.{some}
 use mathlib.Core.List.{List, [], _∷_, _++_}
@@ -9,7 +9,7 @@ use lib.ListN.{length, getD, set, getElem?}
 use Rattle.isa.specs.File.{legal}
 use Rattle.isa.specs.Run.{Outcome, outcomeOf}
 use Rattle.isa.specs.declared.types.Ending.{Ending}
-use Rattle.trace.specs.Trace.{lengthAt, wordsAt}
+use Rattle.trace.specs.Trace.{lengthAt, countAt}
 use Rattle.trace.specs.Verdict.{Body, acceptedOf, judgeOf}
 use Rattle.trace.specs.Returned.{bodyAt}
 use Rattle.trace.specs.declared.types.Verdict.{Verdict}
@@ -108,7 +108,7 @@ readAs r = record { before = flagNumber (r .before); file = r .file; words = r .
 -- case k of a trace is the recording
 pub record Reads (t : List ℕ) (k : ℕ) (r : Recording) : Type 0 where
   pub bits : lengthAt t k ≡ r .bits
-  pub count : wordsAt t k ≡ length (r .words)
+  pub count : countAt t k ≡ length (r .words)
   pub body : bodyAt t k ≡ readAs r
 
 -- case k has the verdict

@@ -15,8 +15,8 @@ casesOf t = wordAt t 0
 abbrev pub lengthAt : List ℕ → ℕ → ℕ
 lengthAt t k = wordAt t (4 + 12 * k)
 
-abbrev pub wordsAt : List ℕ → ℕ → ℕ
-wordsAt t k = wordAt t (8 + 12 * k)
+abbrev pub countAt : List ℕ → ℕ → ℕ
+countAt t k = wordAt t (8 + 12 * k)
 
 abbrev pub startAt : List ℕ → ℕ → ℕ
 startAt t k = wordAt t (12 + 12 * k)
@@ -33,7 +33,7 @@ bodySize L W = 8 + 8 * L + 4 * W
 -- where body k has to start: at the end of the body before it, and the first at the end of the contents
 unfoldable pub begins : List ℕ → ℕ → ℕ
 begins t zero = contentsSize t
-begins t (suc k) = begins t k + bodySize (lengthAt t k) (wordsAt t k)
+begins t (suc k) = begins t k + bodySize (lengthAt t k) (countAt t k)
 
 -- the end of the last body
 abbrev pub totalOf : List ℕ → ℕ
@@ -41,14 +41,14 @@ totalOf t = begins t (casesOf t)
 
 -- the bytes of body k
 unfoldable pub bodyOf : List ℕ → ℕ → List ℕ
-bodyOf t k = take (bodySize (lengthAt t k) (wordsAt t k)) (drop (startAt t k) t)
+bodyOf t k = take (bodySize (lengthAt t k) (countAt t k)) (drop (startAt t k) t)
 
 -- ---- what is allowed
 
 -- case k's length, word count and start
 abbrev pub fieldAllowed : ℕ → List ℕ → ℕ → Bool
 fieldAllowed zero t k = legal (lengthAt t k)
-fieldAllowed (suc zero) t k = leb (wordsAt t k) 4096
+fieldAllowed (suc zero) t k = leb (countAt t k) 4096
 fieldAllowed (suc (suc f)) t k = eqb (startAt t k) (begins t k)
 
 -- number i of the contents: the number of cases, then three for each case

@@ -7,12 +7,12 @@ use lib.ListN.{take, drop}
 use Rattle.isa.specs.Bytes.{wordAt, wordsOf}
 use Rattle.isa.specs.Run.{Outcome, outcomeOf}
 use Rattle.isa.specs.declared.types.Ending.{Ending}
-use Rattle.trace.specs.Trace.{casesOf, lengthAt, wordsAt, bodyOf, contentsAllowed, totalAllowed}
+use Rattle.trace.specs.Trace.{casesOf, lengthAt, countAt, bodyOf, contentsAllowed, totalAllowed}
 use Rattle.trace.specs.declared.types.Verdict.{Verdict}
 use Rattle.trace.specs.declared.types.Accepted.{Accepted}
 use Rattle.trace.specs.declared.types.Judged.{Judged}
 
--- ---- a body of length L and W words
+-- ---- a body of length L and W words: QC before, file before, words, QC after, and in `left` the file after
 
 pub record Body : Type 0 where
   pub before : ℕ
@@ -53,18 +53,18 @@ abbrev pub flags : Bool → Bool → Verdict
 flags left after = pickVerdict (Bool·beq left after) Verdict.Agrees Verdict.FlagDiffers
 
 -- a run's outcome beside the flag and the file after; a run that stopped is not compared
-abbrev pub ended : Ending → Outcome → Bool → List ℕ → Verdict
-ended Ending.Done o after left = compared 0 (o .file) left (flags (o .answer .qc) after)
-ended Ending.Outside o after left = Verdict.Outside (o .answer .done)
-ended Ending.Reserved o after left = Verdict.Reserved (o .answer .done)
+abbrev pub endedVerdict : Ending → Outcome → Bool → List ℕ → Verdict
+endedVerdict Ending.Done o after left = compared 0 (o .file) left (flags (o .answer .qc) after)
+endedVerdict Ending.Outside o after left = Verdict.Outside (o .answer .done)
+endedVerdict Ending.Reserved o after left = Verdict.Reserved (o .answer .done)
 -- no case of an accepted trace ends so (`case-runs`)
-ended Ending.BadLength o after left = Verdict.BadFlag
-ended Ending.NotPowerOfTwo o after left = Verdict.BadFlag
-ended Ending.BadSize o after left = Verdict.BadFlag
-ended Ending.TooLong o after left = Verdict.BadFlag
+endedVerdict Ending.BadLength o after left = Verdict.BadFlag
+endedVerdict Ending.NotPowerOfTwo o after left = Verdict.BadFlag
+endedVerdict Ending.BadSize o after left = Verdict.BadFlag
+endedVerdict Ending.TooLong o after left = Verdict.BadFlag
 
 abbrev pub besides : Outcome → Bool → List ℕ → Verdict
-besides o after left = ended (o .answer .ending) o after left
+besides o after left = endedVerdict (o .answer .ending) o after left
 
 -- 17 comes ahead of every other verdict
 abbrev pub verdictOn : ℕ → Body → Verdict
@@ -78,7 +78,7 @@ verdictOf L W body = verdictOn L (partsOf L W body)
 
 -- case k of a trace of any size
 unfoldable pub caseOf : List ℕ → ℕ → Verdict
-caseOf t k = verdictOf (lengthAt t k) (wordsAt t k) (bodyOf t k)
+caseOf t k = verdictOf (lengthAt t k) (countAt t k) (bodyOf t k)
 
 -- ---- a trace: 15, then 16
 

@@ -5,7 +5,7 @@ use native.Mathlib.Omega.{arith}
 use borrow.Author.Needs.{needs}
 use lib.ListN.{length}
 use Rattle.isa.proofs.File.{legal-exact}
-use Rattle.replay.proofs.Parts.{told-stopped, told-done}
+use Rattle.replay.proofs.Parts.{stopped-verdict, done-verdict}
 use Rattle.replay.proofs.body.replayed_on.Statement.{statement}
 use Rattle.replay.proofs.body.replayed_on.Tie as tie
 
@@ -23,7 +23,7 @@ returns c =
     let s = l .before .before .before .before .before .before in
     let a = s .args in
     c .stopped .ensures
-    ∙ told-stopped (a .l) (a .before) (a .file .now) (a .words .now) (a .after) (a .left .now) (r .run-bytes .result) _ _ (l .load .ensures) (r .run-bytes .ensures) (m .match .keys2)
+    ∙ stopped-verdict (a .l) (a .before) (a .file .now) (a .words .now) (a .after) (a .left .now) (r .run-bytes .result) _ _ (l .load .ensures) (r .run-bytes .ensures) (m .match .keys2)
 
 compare-requires : tie.Need-compare-requires
 compare-requires c κs =
@@ -42,7 +42,7 @@ returns-2 c =
     let s = l .before .before .before .before .before .before in
     let a = s .args in
     c .compare .ensures
-    ∙ told-done (a .l) (a .before) (a .file .now) (a .words .now) (a .after) (a .left .now) (r .run-bytes .result) _ _ (l .load .ensures) (r .run-bytes .ensures) (e .enum-told .given .1)
+    ∙ done-verdict (a .l) (a .before) (a .file .now) (a .words .now) (a .after) (a .left .now) (r .run-bytes .result) _ _ (l .load .ensures) (r .run-bytes .ensures) (e .enum-told .given .1)
     (f .flags .result) (f .flags .ensures)
 
 pub replayed-on-spec : {M : Type 1} → statement M

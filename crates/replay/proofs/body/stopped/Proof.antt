@@ -1,62 +1,46 @@
 use borrow.Author.Needs.{needs}
 use Rattle.replay.proofs.body.stopped.Statement.{statement}
 use Rattle.replay.proofs.body.stopped.Tie as tie
-use Rattle.replay.proofs.body.stopped.Reads as reads
-use Rattle.replay.proofs.body.stopped.Lts as lts
 
--- src/body.rt:44:25
 enum-told : tie.Need-enum-told
 enum-told c = search needs
 
--- src/body.rt:45:30
 enum-told-2 : tie.Need-enum-told-2
 enum-told-2 c = search needs
 
--- src/body.rt:46:34
 enum-told-3 : tie.Need-enum-told-3
 enum-told-3 c = search needs
 
--- src/body.rt:47:28
 enum-told-4 : tie.Need-enum-told-4
 enum-told-4 c = search needs
 
--- src/body.rt:48:28
 enum-told-5 : tie.Need-enum-told-5
 enum-told-5 c = search needs
 
--- src/body.rt:49:28
 enum-told-6 : tie.Need-enum-told-6
 enum-told-6 c = search needs
 
--- src/body.rt:50:29
 enum-told-7 : tie.Need-enum-told-7
 enum-told-7 c = search needs
 
--- src/body.rt:40:1
 returns : tie.Need-returns
 returns c = search needs
 
--- src/body.rt:40:1
 returns-2 : tie.Need-returns-2
 returns-2 c = search needs
 
--- src/body.rt:40:1
 returns-3 : tie.Need-returns-3
 returns-3 c = search needs
 
--- src/body.rt:40:1
 returns-4 : tie.Need-returns-4
 returns-4 c = search needs
 
--- src/body.rt:40:1
 returns-5 : tie.Need-returns-5
 returns-5 c = search needs
 
--- src/body.rt:40:1
 returns-6 : tie.Need-returns-6
 returns-6 c = rw (c .enum-told6 .given .1)
 
--- src/body.rt:40:1
 returns-7 : tie.Need-returns-7
 returns-7 c = rw (c .enum-told7 .given .1)
 

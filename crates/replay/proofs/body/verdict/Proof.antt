@@ -11,59 +11,45 @@ use Rattle.replay.proofs.body.verdict.Tie as tie
 add-program : tie.Need-add-program
 add-program c = search needs
 
--- src/body.rt:83:16
 add-flag : tie.Need-add-flag
 add-flag c = search needs
 
--- src/body.rt:84:9
 word-at-requires : tie.Need-word-at-requires
 word-at-requires c κs = search needs
 
--- src/body.rt:85:9
 word-at-requires-2 : tie.Need-word-at-requires-2
 word-at-requires-2 c κs = search needs
 
--- src/body.rt:90:13
 sub-replayed : tie.Need-sub-replayed
 sub-replayed c = search needs
 
--- src/body.rt:90:13
 part-replayed-start : tie.Need-part-replayed-start
 part-replayed-start c = search needs
 
--- src/body.rt:90:13
 part-replayed-end : tie.Need-part-replayed-end
 part-replayed-end c = search needs
 
--- src/body.rt:91:13
 sub-replayed-2 : tie.Need-sub-replayed-2
 sub-replayed-2 c = search needs
 
--- src/body.rt:91:13
 part-replayed-start-2 : tie.Need-part-replayed-start-2
 part-replayed-start-2 c = search needs
 
--- src/body.rt:91:13
 part-replayed-end-2 : tie.Need-part-replayed-end-2
 part-replayed-end-2 c = search needs
 
--- src/body.rt:93:19
 add-replayed : tie.Need-add-replayed
 add-replayed c = search needs
 
--- src/body.rt:93:13
 sub-replayed-3 : tie.Need-sub-replayed-3
 sub-replayed-3 c = search needs
 
--- src/body.rt:93:13
 part-replayed-start-3 : tie.Need-part-replayed-start-3
 part-replayed-start-3 c = search needs
 
--- src/body.rt:93:13
 part-replayed-end-3 : tie.Need-part-replayed-end-3
 part-replayed-end-3 c = search needs
 
--- src/body.rt:87:9
 replayed-requires : tie.Need-replayed-requires
 replayed-requires c κs =
     let s = c .before .before .before .before .before .before .before in

@@ -2,7 +2,7 @@
 -- Assumes nothing.
 use native.Mathlib.Omega.{arith}
 use borrow.Author.Needs.{needs}
-use Rattle.replay.proofs.Files.{told, untold}
+use Rattle.replay.proofs.Files.{differs-compared, same-compared}
 use Rattle.replay.proofs.compare.compare.Statement.{statement}
 use Rattle.replay.proofs.compare.compare.Tie as tie
 
@@ -10,13 +10,13 @@ returns : tie.Need-returns
 returns c =
     let d = c .before .before in
     let s = d .before .before .before .before in
-    told (s .args .file .now) (s .args .left .now) (s .args .agreed) (s .pre) (d .differing .result) (d .differing .ensures) (c .before .if1 .taken)
+    differs-compared (s .args .file .now) (s .args .left .now) (s .args .agreed) (s .pre) (d .differing .result) (d .differing .ensures) (c .before .if1 .taken)
 
 returns-2 : tie.Need-returns-2
 returns-2 c =
     let d = c .before in
     let s = d .before .before .before .before in
-    untold (s .args .file .now) (s .args .left .now) (s .args .agreed) (s .pre) (d .differing .result) (d .differing .ensures) (c .if1 .left)
+    same-compared (s .args .file .now) (s .args .left .now) (s .args .agreed) (s .pre) (d .differing .result) (d .differing .ensures) (c .if1 .left)
 
 pub compare-spec : {M : Type 1} → statement M
 compare-spec = tie.close (tie.spec (λ c κs. search needs) (λ c κs. search needs) (λ c. search needs) returns returns-2)

@@ -3,7 +3,7 @@
 use native.Mathlib.Omega.{arith}
 use borrow.Author.Needs.{needs}
 use Rattle.isa.proofs.File.{legal-exact}
-use Rattle.replay.proofs.Listed.{body-ends, body-refused, tested-length, tested-words}
+use Rattle.replay.proofs.Extent.{body-ends, body-refused, tested-length, tested-words}
 use Rattle.replay.proofs.contents.body_end.Statement.{statement}
 use Rattle.replay.proofs.contents.body_end.Tie as tie
 

@@ -3,7 +3,7 @@
 use mathlib.Core.Path.{refl, ap, _∙_}
 use native.Mathlib.Omega.{arith}
 use borrow.Author.Needs.{needs}
-use Rattle.replay.proofs.Asked.{asked-contents, asked-there, asked-short, read-small, read-within, read-whole, read-case}
+use Rattle.replay.proofs.Answers.{asked-contents, asked-there, asked-short, read-small, read-within, read-whole, read-case}
 use Rattle.replay.proofs.contents.case_verdict.Statement.{statement}
 use Rattle.replay.proofs.contents.case_verdict.Tie as tie
 

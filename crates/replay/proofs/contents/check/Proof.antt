@@ -3,8 +3,8 @@
 use mathlib.Core.Path.{sym, _∙_}
 use native.Mathlib.Omega.{arith}
 use borrow.Author.Needs.{needs}
-use Rattle.replay.proofs.Listed.{count-none, count-some}
-use Rattle.replay.proofs.Asked.{accepted-none, accepted-refused, accepted-cases, accepted-total}
+use Rattle.replay.proofs.Extent.{count-none, count-some}
+use Rattle.replay.proofs.Answers.{accepted-none, accepted-refused, accepted-cases, accepted-total}
 use Rattle.replay.proofs.contents.check.Statement.{statement}
 use Rattle.replay.proofs.contents.check.Tie as tie
 
@@ -31,14 +31,14 @@ returns-3 c =
     let n = e .before .before in
     let t = n .before .before .args .trace .now in
     let counted = count-some t (n .count .result) (n .count .ensures) (omega (arith, e .before .if1 .left)) in
-    accepted-cases t _ (sym (e .entries .ensures) ∙ l .listed .given .1) (n .count .result) (counted .same) (c .if2 .taken)
+    accepted-cases t _ (sym (e .entries .ensures) ∙ l .extent .given .1) (n .count .result) (counted .same) (c .if2 .taken)
 
 returns-4 : tie.Need-returns-4
 returns-4 c =
     let l = c .before .before in
     let e = l .before .before in
     let n = e .before .before in
-    accepted-total (n .before .before .args .trace .now) _ (sym (e .entries .ensures) ∙ l .listed .given .1) (c .if2 .left)
+    accepted-total (n .before .before .args .trace .now) _ (sym (e .entries .ensures) ∙ l .extent .given .1) (c .if2 .left)
 
 pub check-spec : {M : Type 1} → statement M
 check-spec =

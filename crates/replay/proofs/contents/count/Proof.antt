@@ -2,7 +2,7 @@
 -- Assumes nothing.
 use mathlib.Core.Path.{sym, _∙_}
 use borrow.Author.Needs.{needs}
-use Rattle.replay.proofs.Listed.{count-cut, count-small, count-large}
+use Rattle.replay.proofs.Extent.{count-cut, count-small, count-large}
 use Rattle.replay.proofs.contents.count.Statement.{statement}
 use Rattle.replay.proofs.contents.count.Tie as tie
 

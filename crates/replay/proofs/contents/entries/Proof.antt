@@ -4,12 +4,12 @@ use mathlib.Core.Path.{sym, _∙_}
 use native.Mathlib.Omega.{arith}
 use borrow.Author.Needs.{needs}
 use Prim.Native.Nat.{_-_}
-use Rattle.replay.proofs.Listed.{Listing, listing-starts, listing-short, listing-on, listing-refused, listing-ends}
+use Rattle.replay.proofs.Extent.{EntriesBefore, entries-starts, entries-short, entries-on, entries-refused, entries-ends}
 use Rattle.replay.proofs.contents.entries.Statement.{statement}
 use Rattle.replay.proofs.contents.entries.Tie as tie
 
 abbrev Inv-loop : tie.InvT-loop
-Inv-loop trace cases due₀ k₀ due k = Listing trace cases due k
+Inv-loop trace cases due₀ k₀ due k = EntriesBefore trace cases due k
 
 abbrev μ-loop : tie.MeasureT-loop
 μ-loop trace cases due₀ k₀ due k = cases - k
@@ -18,20 +18,20 @@ entry-place-requires : tie.Need-entry-place-requires Inv-loop μ-loop
 entry-place-requires c κs = c .before .pre .few
 
 loop-holds : tie.Need-loop-holds Inv-loop μ-loop
-loop-holds c = let s = c .before .before in listing-starts (s .args .trace .now) (s .args .cases) (s .pre) _ (c .entry-place .ensures)
+loop-holds c = let s = c .before .before in entries-starts (s .args .trace .now) (s .args .cases) (s .pre) _ (c .entry-place .ensures)
 
 entry-requires : tie.Need-entry-requires Inv-loop μ-loop
 entry-requires c κs =
     let h = c .before in
     let s = h .before .before .before in
-    (omega (arith, c .loop-test .taken, s .pre .few), listing-short (s .args .trace .now) (s .args .cases) (s .pre) (h .loop .due) (h .loop .k) (h .loop .inv))
+    (omega (arith, c .loop-test .taken, s .pre .few), entries-short (s .args .trace .now) (s .args .cases) (s .pre) (h .loop .due) (h .loop .k) (h .loop .inv))
 
 returns : tie.Need-returns Inv-loop μ-loop
 returns c =
     let e = c .before .before in
     let h = e .before .before in
     let s = h .before .before .before in
-    listing-refused (s .args .trace .now) (s .args .cases) (s .pre) (h .loop .due) (h .loop .k) (h .loop .inv) (e .before .loop-test .taken)
+    entries-refused (s .args .trace .now) (s .args .cases) (s .pre) (h .loop .due) (h .loop .k) (h .loop .inv) (e .before .loop-test .taken)
     (sym (e .entry .ensures) ∙ c .enum-told .given .1)
 
 loop-again : tie.Need-loop-again Inv-loop μ-loop
@@ -39,14 +39,14 @@ loop-again c =
     let e = c .before .before .before in
     let h = e .before .before in
     let s = h .before .before .before in
-    listing-on (s .args .trace .now) (s .args .cases) (s .pre) (h .loop .due) (h .loop .k) (h .loop .inv) (e .before .loop-test .taken) _
-    (sym (e .entry .ensures) ∙ c .before .listed .given .1)
+    entries-on (s .args .trace .now) (s .args .cases) (s .pre) (h .loop .due) (h .loop .k) (h .loop .inv) (e .before .loop-test .taken) _
+    (sym (e .entry .ensures) ∙ c .before .extent .given .1)
 
 returns-2 : tie.Need-returns-2 Inv-loop μ-loop
 returns-2 c =
     let h = c .before in
     let s = h .before .before .before in
-    listing-ends (s .args .trace .now) (s .args .cases) (s .pre) (h .loop .due) (h .loop .k) (h .loop .inv) (c .loop-test .left)
+    entries-ends (s .args .trace .now) (s .args .cases) (s .pre) (h .loop .due) (h .loop .k) (h .loop .inv) (c .loop-test .left)
 
 pub entries-spec : {M : Type 1} → statement M
 entries-spec =

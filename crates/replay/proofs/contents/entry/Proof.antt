@@ -3,9 +3,9 @@
 use mathlib.Core.Path.{sym, ap, _∙_}
 use native.Mathlib.Omega.{arith}
 use borrow.Author.Needs.{needs}
-use Rattle.replay.specs.Listed.{bodyEnd}
+use Rattle.replay.specs.Extent.{bodyEnd}
 use Rattle.replay.proofs.Read.{read-cut}
-use Rattle.replay.proofs.Listed.{entry-cut, entry-read}
+use Rattle.replay.proofs.Extent.{entry-cut, entry-read}
 use Rattle.replay.proofs.contents.entry.Statement.{statement}
 use Rattle.replay.proofs.contents.entry.Tie as tie
 

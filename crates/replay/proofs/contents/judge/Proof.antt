@@ -3,7 +3,7 @@
 use mathlib.Core.Path.{sym, _∙_}
 use borrow.Author.Needs.{needs}
 use Rattle.trace.specs.declared.types.Accepted.{Accepted}
-use Rattle.replay.proofs.Asked.{judged-as, judged-case, judged-none, judged-asked}
+use Rattle.replay.proofs.Answers.{judged-as, judged-case, judged-none, judged-asked}
 use Rattle.replay.proofs.contents.judge.Statement.{statement}
 use Rattle.replay.proofs.contents.judge.Tie as tie
 

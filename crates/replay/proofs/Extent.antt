@@ -1,4 +1,4 @@
--- The table of contents, entry by entry. `body-ends`, `body-refused`: the tests of an entry. `entry-cut`, `entry-read`: an entry is read. `listing-..`:
+-- The table of contents, entry by entry. `body-ends`, `body-refused`: the tests of an entry. `entry-cut`, `entry-read`: an entry is read. `entries-..`:
 -- the entries before case k are allowed. Assumes nothing.
 use mathlib.Core.Path.{_≡_, refl, sym, ap, subst, _∙_}
 use mathlib.Core.List.{List}
@@ -13,12 +13,12 @@ use Rattle.isa.specs.Bytes.{wordAt}
 use Rattle.isa.specs.File.{legal}
 use Rattle.isa.proofs.Fields.{and-left, and-right}
 use Rattle.isa.proofs.File.{cases as cases′}
-use Rattle.trace.specs.Trace.{casesOf, lengthAt, wordsAt, startAt, bodySize, begins}
+use Rattle.trace.specs.Trace.{casesOf, lengthAt, countAt, startAt, bodySize, begins}
 use Rattle.trace.specs.Returned.{EntryAllowed, ContentsAllowed}
 use Rattle.trace.proofs.Contents.{and-both, contents-exact, contents-refused, begins-short}
-use Rattle.replay.specs.Listed.{pickListed, bodyEnd, entryOf, entriesOf, pickCount, countOf, Counted}
+use Rattle.replay.specs.Extent.{pickExtent, bodyEnd, entryOf, entriesOf, pickCount, countOf, Counted}
 use Rattle.replay.specs.Read.{numberAt}
-use Rattle.replay.specs.declared.contents.Listed.{Listed}
+use Rattle.replay.specs.declared.contents.Extent.{Extent}
 use Rattle.replay.specs.declared.reader.Read.{Read}
 use Rattle.replay.proofs.Read.{read-number, read-cut}
 
@@ -31,11 +31,11 @@ module _ (L W start due : ℕ) (b : Bool) (e : b ≡ legal L) where
   tests : (legal L && (leb W 4096 && eqb start due)) ≡ tested
   tests = ap (λ x. x && (leb W 4096 && eqb start due)) (sym e)
 
-  pub body-ends : tested ≡ true → (size : ℕ) → size ≡ bodySize L W → Listed.Ends (due + size) ≡ bodyEnd L W start due
+  pub body-ends : tested ≡ true → (size : ℕ) → size ≡ bodySize L W → Extent.Ends (due + size) ≡ bodyEnd L W start due
   unfolding bodyEnd
-  body-ends h size s = rw (tests ∙ h) (ap (λ (n : ℕ). Listed.Ends (due + n)) s)
+  body-ends h size s = rw (tests ∙ h) (ap (λ (n : ℕ). Extent.Ends (due + n)) s)
 
-  pub body-refused : tested ≡ false → Listed.Refused ≡ bodyEnd L W start due
+  pub body-refused : tested ≡ false → Extent.Refused ≡ bodyEnd L W start due
   unfolding bodyEnd
   body-refused h = rw (tests ∙ h)
 
@@ -48,7 +48,7 @@ module _ (L W start due : ℕ) (b : Bool) (e : b ≡ legal L) where
 -- ---- an entry
 
 module _ (t : List ℕ) (k due : ℕ) where
-  pub entry-cut : length t < 16 + 12 * k → Listed.Refused ≡ entryOf t k due
+  pub entry-cut : length t < 16 + 12 * k → Extent.Refused ≡ entryOf t k due
   unfolding entryOf
   entry-cut l = rw (lt-leb (16 + 12 * k) (length t) l)
 
@@ -74,60 +74,60 @@ module _ (t : List ℕ) (k due : ℕ) where
 
   -- ---- what its answer tells
 
-  picked-ends : (a b : Bool) (n e : ℕ) → pickListed a (pickListed b (Listed.Ends n) Listed.Refused) Listed.Refused ≡ Listed.Ends e → (a ≡ true) × (b ≡ true) × (n ≡ e)
+  picked-ends : (a b : Bool) (n e : ℕ) → pickExtent a (pickExtent b (Extent.Ends n) Extent.Refused) Extent.Refused ≡ Extent.Ends e → (a ≡ true) × (b ≡ true) × (n ≡ e)
   picked-ends true true n e h = (refl, refl, cc)
   picked-ends true false n e h = let z : _≡_ {A = ℕ} 0 1 = cc in absurd (omega arith)
   picked-ends false b n e h = let z : _≡_ {A = ℕ} 0 1 = cc in absurd (omega arith)
 
-  picked-refused : (a b : Bool) (n : ℕ) → pickListed a (pickListed b (Listed.Ends n) Listed.Refused) Listed.Refused ≡ Listed.Refused → a ≡ true → b ≡ true → ⊥
+  picked-refused : (a b : Bool) (n : ℕ) → pickExtent a (pickExtent b (Extent.Ends n) Extent.Refused) Extent.Refused ≡ Extent.Refused → a ≡ true → b ≡ true → ⊥
   picked-refused true true n h e f = let z : _≡_ {A = ℕ} 0 1 = cc in omega arith
   picked-refused true false n h e f = true≢false (sym f)
   picked-refused false b n h e f = true≢false (sym e)
 
   abbrev words-start : Bool
-  words-start = leb (wordsAt t k) 4096 && eqb (startAt t k) due
+  words-start = leb (countAt t k) 4096 && eqb (startAt t k) due
 
-  pub entry-ends : (e : ℕ) → due ≡ begins t k → entryOf t k due ≡ Listed.Ends e → (16 + 12 * k ≤ length t) × EntryAllowed t k × (e ≡ begins t (suc k))
+  pub entry-ends : (e : ℕ) → due ≡ begins t k → entryOf t k due ≡ Extent.Ends e → (16 + 12 * k ≤ length t) × EntryAllowed t k × (e ≡ begins t (suc k))
   unfolding entryOf bodyEnd begins
   entry-ends e same h =
-      let p = picked-ends (leb (16 + 12 * k) (length t)) (legal (lengthAt t k) && words-start) (due + bodySize (lengthAt t k) (wordsAt t k)) e h in
+      let p = picked-ends (leb (16 + 12 * k) (length t)) (legal (lengthAt t k) && words-start) (due + bodySize (lengthAt t k) (countAt t k)) e h in
       let rest = and-right (legal (lengthAt t k)) words-start (p .1) in (
         leb-true _ _ (p .0),
         record {
           ok = and-left (legal (lengthAt t k)) words-start (p .1);
-          few = leb-true _ _ (and-left (leb (wordsAt t k) 4096) (eqb (startAt t k) due) rest);
-          start = eqb-true _ _ (and-right (leb (wordsAt t k) 4096) (eqb (startAt t k) due) rest) ∙ same;
+          few = leb-true _ _ (and-left (leb (countAt t k) 4096) (eqb (startAt t k) due) rest);
+          start = eqb-true _ _ (and-right (leb (countAt t k) 4096) (eqb (startAt t k) due) rest) ∙ same;
         },
-        sym (p .2) ∙ ap (λ (n : ℕ). n + bodySize (lengthAt t k) (wordsAt t k)) same,
+        sym (p .2) ∙ ap (λ (n : ℕ). n + bodySize (lengthAt t k) (countAt t k)) same,
       )
 
-  pub entry-refused : due ≡ begins t k → entryOf t k due ≡ Listed.Refused → 16 + 12 * k ≤ length t → EntryAllowed t k → ⊥
+  pub entry-refused : due ≡ begins t k → entryOf t k due ≡ Extent.Refused → 16 + 12 * k ≤ length t → EntryAllowed t k → ⊥
   unfolding entryOf bodyEnd
   entry-refused same h there a =
-      picked-refused (leb (16 + 12 * k) (length t)) (legal (lengthAt t k) && words-start) (due + bodySize (lengthAt t k) (wordsAt t k)) h (le-leb _ _ there)
+      picked-refused (leb (16 + 12 * k) (length t)) (legal (lengthAt t k) && words-start) (due + bodySize (lengthAt t k) (countAt t k)) h (le-leb _ _ there)
       (and-both (a .ok) (and-both (le-leb _ _ (a .few)) (eq-eqb _ _ (a .start ∙ sym same))))
 
 -- ---- the loop over the entries: those before k are allowed
 
-pub record Listing (t : List ℕ) (cases due k : ℕ) : Type 0 where
+pub record EntriesBefore (t : List ℕ) (cases due k : ℕ) : Type 0 where
   pub within : k ≤ cases
   pub there : 4 + 12 * k ≤ length t
   pub place : due ≡ begins t k
   pub entries : (j : ℕ) → j < k → EntryAllowed t j
 
 module _ (t : List ℕ) (cases : ℕ) (c : Counted t cases) where
-  pub listing-starts : (place : ℕ) → place ≡ 4 + 12 * cases → Listing t cases place 0
+  pub entries-starts : (place : ℕ) → place ≡ 4 + 12 * cases → EntriesBefore t cases place 0
   unfolding begins
-  listing-starts place e =
+  entries-starts place e =
       record { within = omega arith; there = c .there; place = e ∙ ap (λ (n : ℕ). 4 + 12 * n) (c .same); entries = λ j l. absurd (omega arith) }
 
-  module _ (due k : ℕ) (l : Listing t cases due k) where
+  module _ (due k : ℕ) (l : EntriesBefore t cases due k) where
     -- far below what a number holds
-    pub listing-short : due ≤ 0x400_0000
-    listing-short = omega (arith, l .place, begins-short t k (omega (arith, c .same, c .few)) (l .entries), l .within, c .few)
+    pub entries-short : due ≤ 0x400_0000
+    entries-short = omega (arith, l .place, begins-short t k (omega (arith, c .same, c .few)) (l .entries), l .within, c .few)
 
-    pub listing-on : k < cases → (e : ℕ) → entryOf t k due ≡ Listed.Ends e → Listing t cases e (k + 1)
-    listing-on more e h =
+    pub entries-on : k < cases → (e : ℕ) → entryOf t k due ≡ Extent.Ends e → EntriesBefore t cases e (k + 1)
+    entries-on more e h =
         let a = entry-ends t k due e (l .place) h in
         record {
           within = omega arith;
@@ -136,15 +136,15 @@ module _ (t : List ℕ) (cases : ℕ) (c : Counted t cases) where
           entries = λ j b. cases′ (eqb j k) (λ same. subst (EntryAllowed t) (sym (eqb-true j k same)) (a .1)) (λ other. let ne = eqb-false j k other in l .entries j (omega (arith, ne)));
         }
 
-    pub listing-refused : k < cases → entryOf t k due ≡ Listed.Refused → Listed.Refused ≡ entriesOf t
+    pub entries-refused : k < cases → entryOf t k due ≡ Extent.Refused → Extent.Refused ≡ entriesOf t
     unfolding entriesOf
-    listing-refused more h =
+    entries-refused more h =
         let none : ContentsAllowed t → ⊥ = λ a. entry-refused t k due (l .place) h (omega (arith, a .whole, c .same)) (a .entries k (omega (arith, c .same))) in
         rw (contents-refused t none)
 
-    pub listing-ends : cases ≤ k → Listed.Ends due ≡ entriesOf t
+    pub entries-ends : cases ≤ k → Extent.Ends due ≡ entriesOf t
     unfolding entriesOf
-    listing-ends past =
+    entries-ends past =
         let all : k ≡ casesOf t = let w = l .within in omega (arith, c .same) in
         let allowed : ContentsAllowed t = record {
           whole = omega (arith, l .there, all);
@@ -152,7 +152,7 @@ module _ (t : List ℕ) (cases : ℕ) (c : Counted t cases) where
           few = omega (arith, c .few, c .same);
           entries = λ j b. l .entries j (omega (arith, all));
         } in
-        rw (contents-exact t .1 allowed) (ap Listed.Ends (l .place ∙ ap (begins t) all))
+        rw (contents-exact t .1 allowed) (ap Extent.Ends (l .place ∙ ap (begins t) all))
 
 -- ---- the number of cases
 

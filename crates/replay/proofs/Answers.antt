@@ -11,7 +11,7 @@ use lib.ListN.{length, take, drop, length-take, length-drop}
 use borrow.Author.Tests.{lt-ltb, le-ltb}
 use Rattle.isa.specs.Bytes.{wordAt}
 use Rattle.isa.proofs.File.{legal-exact}
-use Rattle.trace.specs.Trace.{casesOf, lengthAt, wordsAt, startAt, bodySize, totalOf, bodyOf, contentsAllowed, totalAllowed}
+use Rattle.trace.specs.Trace.{casesOf, lengthAt, countAt, startAt, bodySize, totalOf, bodyOf, contentsAllowed, totalAllowed}
 use Rattle.trace.specs.Verdict.{pickAccepted, acceptedOf, verdictOf, caseOf, judgedAfter, judgeOf}
 use Rattle.trace.specs.Returned.{EntryAllowed, ContentsAllowed}
 use Rattle.trace.specs.declared.types.Accepted.{Accepted}
@@ -19,8 +19,8 @@ use Rattle.trace.specs.declared.types.Judged.{Judged}
 use Rattle.trace.specs.declared.types.Verdict.{Verdict}
 use Rattle.trace.proofs.Contents.{contents-exact, contents-refused, total-exact, body-within}
 use Rattle.replay.specs.Body.{Whole}
-use Rattle.replay.specs.Listed.{pickListed, entriesOf, Asked}
-use Rattle.replay.specs.declared.contents.Listed.{Listed}
+use Rattle.replay.specs.Extent.{pickExtent, entriesOf, CaseThere}
+use Rattle.replay.specs.declared.contents.Extent.{Extent}
 
 module _ (t : List ℕ) where
   -- ---- the check of a trace
@@ -29,19 +29,19 @@ module _ (t : List ℕ) where
   unfolding acceptedOf
   accepted-none no-more = rw (contents-refused t no-more)
 
-  picked-refused : (a : Bool) (n : ℕ) → pickListed a (Listed.Ends n) Listed.Refused ≡ Listed.Refused → a ≡ false
+  picked-refused : (a : Bool) (n : ℕ) → pickExtent a (Extent.Ends n) Extent.Refused ≡ Extent.Refused → a ≡ false
   picked-refused true n h = let z : _≡_ {A = ℕ} 0 1 = cc in absurd (omega arith)
   picked-refused false n h = refl
 
-  picked-ends : (a : Bool) (n m : ℕ) → pickListed a (Listed.Ends n) Listed.Refused ≡ Listed.Ends m → (a ≡ true) × (n ≡ m)
+  picked-ends : (a : Bool) (n m : ℕ) → pickExtent a (Extent.Ends n) Extent.Refused ≡ Extent.Ends m → (a ≡ true) × (n ≡ m)
   picked-ends true n m h = (refl, cc)
   picked-ends false n m h = let z : _≡_ {A = ℕ} 0 1 = cc in absurd (omega arith)
 
-  pub accepted-refused : entriesOf t ≡ Listed.Refused → Accepted.BadContents ≡ acceptedOf t
+  pub accepted-refused : entriesOf t ≡ Extent.Refused → Accepted.BadContents ≡ acceptedOf t
   unfolding acceptedOf entriesOf
   accepted-refused h = rw (picked-refused (contentsAllowed t) (totalOf t) h)
 
-  module _ (total : ℕ) (h : entriesOf t ≡ Listed.Ends total) where
+  module _ (total : ℕ) (h : entriesOf t ≡ Extent.Ends total) where
     known : (contentsAllowed t ≡ true) × (totalOf t ≡ total)
     unfolding entriesOf
     known = picked-ends (contentsAllowed t) (totalOf t) total h
@@ -75,13 +75,13 @@ module _ (t : List ℕ) where
     picked-cases true false m h = let z : _≡_ {A = ℕ} 0 2 = cc in absurd (omega arith)
     picked-cases false b m h = let z : _≡_ {A = ℕ} 0 1 = cc in absurd (omega arith)
 
-    pub judged-asked : n < c → Asked t n
+    pub judged-asked : n < c → CaseThere t n
     unfolding acceptedOf
     judged-asked l =
         let p = picked-cases (contentsAllowed t) (totalAllowed t) (casesOf t) e in
         record { contents = p .0; total = p .1; below = omega (arith, p .2) }
 
-  module _ (n : ℕ) (a : Asked t n) where
+  module _ (n : ℕ) (a : CaseThere t n) where
     pub asked-contents : ContentsAllowed t
     asked-contents = contents-exact t .0 (a .contents)
 
@@ -89,7 +89,7 @@ module _ (t : List ℕ) where
     asked-entry = asked-contents .entries n (a .below)
 
     -- its body ends within the trace
-    pub asked-within : startAt t n + bodySize (lengthAt t n) (wordsAt t n) ≤ length t
+    pub asked-within : startAt t n + bodySize (lengthAt t n) (countAt t n) ≤ length t
     asked-within = omega (arith, asked-entry .start, body-within t n (a .below), total-exact t .0 (a .total) .exact)
 
     pub asked-short : length t ≤ 65536
@@ -104,7 +104,7 @@ module _ (t : List ℕ) where
       length-is : L ≡ lengthAt t n
       length-is = l ∙ ap (wordAt t) place
 
-      words-are : W ≡ wordsAt t n
+      words-are : W ≡ countAt t n
       words-are = let q : p + 4 ≡ 8 + 12 * n = omega arith in w ∙ ap (wordAt t) q
 
       start-is : start ≡ startAt t n

@@ -6,24 +6,24 @@ use mathlib.Core.Bool.{Bool, true, false, _&&_}
 use lib.ListN.{length}
 use lib.Dec.{leb, eqb}
 use Rattle.isa.specs.File.{legal}
-use Rattle.trace.specs.Trace.{casesOf, lengthAt, wordsAt, startAt, bodySize, totalOf, contentsAllowed, totalAllowed}
-use Rattle.replay.specs.declared.contents.Listed.{Listed}
+use Rattle.trace.specs.Trace.{casesOf, lengthAt, countAt, startAt, bodySize, totalOf, contentsAllowed, totalAllowed}
+use Rattle.replay.specs.declared.contents.Extent.{Extent}
 
-abbrev pub pickListed : Bool → Listed → Listed → Listed
-pickListed true a b = a
-pickListed false a b = b
+abbrev pub pickExtent : Bool → Extent → Extent → Extent
+pickExtent true a b = a
+pickExtent false a b = b
 
 -- an entry's three numbers, where its body has to start at `due`
-unfoldable pub bodyEnd : ℕ → ℕ → ℕ → ℕ → Listed
-bodyEnd L W start due = pickListed (legal L && (leb W 4096 && eqb start due)) (Listed.Ends (due + bodySize L W)) Listed.Refused
+unfoldable pub bodyEnd : ℕ → ℕ → ℕ → ℕ → Extent
+bodyEnd L W start due = pickExtent (legal L && (leb W 4096 && eqb start due)) (Extent.Ends (due + bodySize L W)) Extent.Refused
 
 -- the entry of case k
-unfoldable pub entryOf : List ℕ → ℕ → ℕ → Listed
-entryOf t k due = pickListed (leb (16 + 12 * k) (length t)) (bodyEnd (lengthAt t k) (wordsAt t k) (startAt t k) due) Listed.Refused
+unfoldable pub entryOf : List ℕ → ℕ → ℕ → Extent
+entryOf t k due = pickExtent (leb (16 + 12 * k) (length t)) (bodyEnd (lengthAt t k) (countAt t k) (startAt t k) due) Extent.Refused
 
 -- all entries
-unfoldable pub entriesOf : List ℕ → Listed
-entriesOf t = pickListed (contentsAllowed t) (Listed.Ends (totalOf t)) Listed.Refused
+unfoldable pub entriesOf : List ℕ → Extent
+entriesOf t = pickExtent (contentsAllowed t) (Extent.Ends (totalOf t)) Extent.Refused
 
 -- the number of cases, and 0 where it is cut short or too large
 abbrev pub pickCount : Bool → ℕ → ℕ
@@ -41,7 +41,7 @@ pub record Counted (t : List ℕ) (cases : ℕ) : Type 0 where
   pub few : cases ≤ 1024
 
 -- a case of an accepted trace
-pub record Asked (t : List ℕ) (n : ℕ) : Type 0 where
+pub record CaseThere (t : List ℕ) (n : ℕ) : Type 0 where
   pub contents : contentsAllowed t ≡ true
   pub total : totalAllowed t ≡ true
   pub below : n < casesOf t
