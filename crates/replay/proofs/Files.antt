@@ -15,7 +15,7 @@ use Rattle.isa.proofs.Made.{Made}
 use Rattle.trace.specs.Verdict.{compared}
 use Rattle.trace.specs.declared.types.Verdict.{Verdict}
 use Rattle.trace.proofs.Compared.{compared-same, compared-differs}
-use Rattle.replay.specs.Body.{Alike, AlikeFrom, Blocks, Differing}
+use Rattle.replay.specs.Body.{Alike, AlikeFrom, Differing}
 
 pub copied : (file image : List ℕ) (n : ℕ) → Made 0 (length file) n (λ k. getD file k 0) image → length file ≤ n → image ≡ file
 copied file image n m l = ext-getD 0 image file (m .sized) (λ i h. m .at i (omega (arith, m .sized, m .within)))
@@ -32,12 +32,12 @@ module _ (xs ys : List ℕ) where
   pub alike-one : (n : ℕ) → Alike xs ys n → getD xs n 0 ≡ getD ys n 0 → Alike xs ys (n + 1)
   alike-one n a here = alike-more n 1 a (λ i h. let first : n ≡ n + i = omega arith in subst (λ (k : ℕ). getD xs k 0 ≡ getD ys k 0) first here)
 
-  module _ (v : Verdict) (b : Blocks xs ys) (n : ℕ) (d : Differing xs ys n) where
+  module _ (v : Verdict) (size : length ys ≡ length xs) (n : ℕ) (d : Differing xs ys n) where
     pub differs-compared : n < length xs → Verdict.FileDiffers n (getD xs n 0) ≡ compared 0 xs ys v
-    differs-compared l = sym (compared-differs v xs ys 0 n (b .same) l (d .alike) (d .here l) ∙ ap (λ (k : ℕ). Verdict.FileDiffers k (getD xs n 0)) (zero-add n))
+    differs-compared l = sym (compared-differs v xs ys 0 n size l (d .alike) (d .here l) ∙ ap (λ (k : ℕ). Verdict.FileDiffers k (getD xs n 0)) (zero-add n))
 
     pub same-compared : length xs ≤ n → v ≡ compared 0 xs ys v
-    same-compared l = sym (compared-same v xs ys 0 (b .same) (λ i h. d .alike i (omega arith)))
+    same-compared l = sym (compared-same v xs ys 0 size (λ i h. d .alike i (omega arith)))
 
 -- ---- a block, by a test that is made of every byte
 

@@ -1,6 +1,6 @@
 -- A body, its words and its files.
 use mathlib.Core.Path.{_≡_}
-use Prim.Native.Nat.{ℕ, _+_, _*_, _%_, _<_, _≤_}
+use Prim.Native.Nat.{ℕ, _+_, _*_, _<_, _≤_}
 use mathlib.Core.List.{List}
 use mathlib.Core.Bool.{true}
 use lib.ListN.{length, getD}
@@ -45,11 +45,6 @@ Alike xs ys n = (i : ℕ) → i < n → getD xs i 0 ≡ getD ys i 0
 -- and in the next `count` bytes
 abbrev pub AlikeFrom : List ℕ → List ℕ → ℕ → ℕ → Type 0
 AlikeFrom xs ys n count = (i : ℕ) → i < count → getD xs (n + i) 0 ≡ getD ys (n + i) 0
-
--- two files of one size, in whole blocks of 512 bytes
-pub record Blocks (xs ys : List ℕ) : Type 0 where
-  pub same : length ys ≡ length xs
-  pub whole : length xs % 512 ≡ 0
 
 -- the first place that differs, or the end
 pub record Differing (xs ys : List ℕ) (n : ℕ) : Type 0 where

@@ -15,8 +15,8 @@ use trace::types::Verdict;
 // The longest file: 32 registers of 2,048 bits.
 const LONGEST_FILE: usize = 8192;
 
-// Copies a file.
-fn load(image: &mut [u8], file: &[u8])
+// Copies a file, or a part of one.
+pub fn load(image: &mut [u8], file: &[u8])
     requires { ⌜ length (now image) ≡ length (now file) ⌝ }
     ensures { λ _. ⌜ now (image .exit) ≡ now (file .entry) ⌝ }
 {
@@ -26,7 +26,7 @@ fn load(image: &mut [u8], file: &[u8])
 }
 
 // What is said where the file agrees.
-fn flags(left: bool, after: bool) -> Verdict
+pub fn flags(left: bool, after: bool) -> Verdict
     ensures { λ r. ⌜ r ≡ definedFlags left after ⌝ }
 {
     if left == after {

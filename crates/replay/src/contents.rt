@@ -22,21 +22,21 @@ pub enum Extent {
     Refused,
 }
 
-fn wide(x: u32) -> usize
+pub fn wide(x: u32) -> usize
     ensures { λ r. ⌜ r ≡ x ⌝ }
 {
     x as usize
 }
 
 // Where the entry of case k stands; that of the case after the last is the end of the contents.
-fn entry_place(k: usize) -> usize
+pub fn entry_place(k: usize) -> usize
     requires { ⌜ k ≤ 1024 ⌝ }
     ensures { λ r. ⌜ r ≡ 4 + 12 * k ⌝ }
 {
     4 + (k << 3) + (k << 2)
 }
 
-fn body_size(l: usize, w: usize) -> usize
+pub fn body_size(l: usize, w: usize) -> usize
     requires { ⌜ (l ≤ 2048) × (w ≤ 4096) ⌝ }
     ensures { λ r. ⌜ r ≡ bodySize l w ⌝ }
 {
@@ -44,7 +44,7 @@ fn body_size(l: usize, w: usize) -> usize
 }
 
 // The end of a body that starts at `due`, if its length, its word count and its start are allowed.
-fn body_end(l: usize, w: usize, start: usize, due: usize) -> Extent
+pub fn body_end(l: usize, w: usize, start: usize, due: usize) -> Extent
     requires { ⌜ due ≤ 0x400_0000 ⌝ }
     ensures { λ r. ⌜ r ≡ bodyEnd l w start due ⌝ }
 {

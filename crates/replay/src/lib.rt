@@ -1,9 +1,9 @@
 // The check of a recorder's trace, and the verdict of a case.
-mod body;
-mod compare;
-mod contents;
+pub mod body;
+pub mod compare;
+pub mod contents;
 pub mod number;
-mod program;
+pub mod program;
 pub mod reader;
 
 pub use contents::check;

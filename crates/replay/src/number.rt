@@ -25,7 +25,7 @@ pub fn accepted_cases(a: Accepted) -> usize
     }
 }
 
-fn verdict_kind(v: Verdict) -> u8
+pub fn verdict_kind(v: Verdict) -> u8
     ensures { λ r. ⌜ r ≡ verdictKind v ⌝ }
 {
     match v {
@@ -38,7 +38,7 @@ fn verdict_kind(v: Verdict) -> u8
     }
 }
 
-fn verdict_place(v: Verdict) -> usize
+pub fn verdict_place(v: Verdict) -> usize
     ensures { λ r. ⌜ r ≡ verdictPlace v ⌝ }
 {
     match v {

@@ -1,5 +1,6 @@
--- The table of contents. `contents-exact`: it is allowed exactly where it is whole, its number of cases is, and each entry is. `begins-short`: a body
--- starts within a bound. `body-within`: each body ends at or before the end of the last. Assumes nothing.
+-- The table of contents. `contents-exact`: it is allowed exactly where it is whole, its number of cases is, and each entry is. `contents-numbers`: and where
+-- it is whole and each of its numbers is. `begins-short`: a body starts within a bound. `begins-mono`: bodies start at rising places. `body-within`: each body
+-- ends at or before the end of the last. Assumes nothing.
 use mathlib.Core.Path.{_≡_, refl, sym, _∙_}
 use mathlib.Core.Logic.{_↔_}
 use mathlib.Core.List.{List}
@@ -44,6 +45,15 @@ module _ (t : List ℕ) where
   allowed-all zero f = refl
   allowed-all (suc n) f = and-both (allowed-all n (λ i l. f i (omega arith))) (f n (omega arith))
 
+  pub contents-numbers : (contentsAllowed t ≡ true) ↔ ((contentsSize t ≤ length t) × ((i : ℕ) → i < 1 + 3 * casesOf t → numberAllowed t i ≡ true))
+  unfolding contentsAllowed
+  contents-numbers =
+      let n : ℕ = 1 + 3 * casesOf t in
+      let whole = leb (contentsSize t) (length t) in (
+        (λ e. (leb-true _ _ (and-left whole (allowed t n) e), λ i l. allowed-at n i (and-right whole (allowed t n) e) l)),
+        (λ p. and-both (le-leb _ _ (p .0)) (allowed-all n (p .1))),
+      )
+
   -- ---- entry by entry
 
   field-allowed : (k : ℕ) → EntryAllowed t k → (f : ℕ) → fieldAllowed f t k ≡ true
@@ -51,10 +61,17 @@ module _ (t : List ℕ) where
   field-allowed k e (suc zero) = le-leb _ _ (e .few)
   field-allowed k e (suc (suc f)) = eq-eqb _ _ (e .start)
 
-  entry-allowed : (c k : ℕ) → allowed t (1 + 3 * c) ≡ true → k < c → EntryAllowed t k
-  entry-allowed c k e l =
-      let at : (f : ℕ) → f < 3 → fieldAllowed f t k ≡ true = λ f s. sym (number-field f k s) ∙ allowed-at (1 + 3 * c) (suc (3 * k + f)) e (omega arith) in
+  pub entry-allowed : (k : ℕ) → ((f : ℕ) → f < 3 → numberAllowed t (suc (3 * k + f)) ≡ true) → EntryAllowed t k
+  entry-allowed k numbers =
+      let at : (f : ℕ) → f < 3 → fieldAllowed f t k ≡ true = λ f l. sym (number-field f k l) ∙ numbers f l in
       record { ok = at 0 (omega arith); few = leb-true _ _ (at 1 (omega arith)); start = eqb-true _ _ (at 2 (omega arith)) }
+
+  pub cases-allowed : numberAllowed t 0 ≡ true → (1 ≤ casesOf t) × (casesOf t ≤ 1024)
+  unfolding numberAllowed
+  cases-allowed e =
+      let some = leb 1 (casesOf t) in
+      let few = leb (casesOf t) 1024 in
+      (leb-true _ _ (and-left some few e), leb-true _ _ (and-right some few e))
 
   entries-allowed : 1 ≤ casesOf t → casesOf t ≤ 1024 → ((k : ℕ) → k < casesOf t → EntryAllowed t k) → (i : ℕ) → i < 1 + 3 * casesOf t → numberAllowed t i ≡ true
   unfolding numberAllowed
@@ -62,21 +79,13 @@ module _ (t : List ℕ) where
   entries-allowed some few entries (suc j) l = field-allowed (j / 3) (entries (j / 3) (omega arith)) (j % 3)
 
   contents-said : contentsAllowed t ≡ true → ContentsAllowed t
-  unfolding contentsAllowed numberAllowed
   contents-said e =
-      let whole = leb (contentsSize t) (length t) in
-      let all = and-right whole (allowed t (1 + 3 * casesOf t)) e in
-      let count = allowed-at (1 + 3 * casesOf t) 0 all (omega arith) in
-      record {
-        whole = leb-true _ _ (and-left whole (allowed t (1 + 3 * casesOf t)) e);
-        some = leb-true _ _ (and-left (leb 1 (casesOf t)) (leb (casesOf t) 1024) count);
-        few = leb-true _ _ (and-right (leb 1 (casesOf t)) (leb (casesOf t) 1024) count);
-        entries = λ k l. entry-allowed (casesOf t) k all l;
-      }
+      let numbers = contents-numbers .0 e in
+      let count = cases-allowed (numbers .1 0 (omega arith)) in
+      record { whole = numbers .0; some = count .0; few = count .1; entries = λ k l. entry-allowed k (λ f m. numbers .1 (suc (3 * k + f)) (omega arith)) }
 
   contents-so : ContentsAllowed t → contentsAllowed t ≡ true
-  unfolding contentsAllowed
-  contents-so c = and-both (le-leb _ _ (c .whole)) (allowed-all (1 + 3 * casesOf t) (entries-allowed (c .some) (c .few) (c .entries)))
+  contents-so c = contents-numbers .1 (c .whole, entries-allowed (c .some) (c .few) (c .entries))
 
   pub contents-exact : (contentsAllowed t ≡ true) ↔ ContentsAllowed t
   contents-exact = (contents-said, contents-so)
@@ -100,16 +109,17 @@ module _ (t : List ℕ) where
       let here = e k (omega arith) in
       omega (arith, begins-short k few (λ j l. e j (omega arith)), legal-exact _ .0 (here .ok) .most, here .few)
 
-  begins-more : (k n : ℕ) → begins t k ≤ begins t (k + n)
+  begins-more : (k n : ℕ) → begins t k + 8 * n ≤ begins t (k + n)
   unfolding begins
   begins-more k zero = rw (add-zero k) (omega arith)
   begins-more k (suc n) = rw (add-suc k n) (omega (arith, begins-more k n))
 
-  begins-mono : (k m : ℕ) → k ≤ m → begins t k ≤ begins t m
+  -- a body has at least 8 bytes
+  pub begins-mono : (k m : ℕ) → k ≤ m → begins t k + 8 * (m - k) ≤ begins t m
   begins-mono k m l =
       let e : k + (m - k) ≡ m = omega arith in
       rw e at (begins-more k (m - k))
 
   pub body-within : (k : ℕ) → k < casesOf t → begins t k + bodySize (lengthAt t k) (countAt t k) ≤ totalOf t
   unfolding begins
-  body-within k l = begins-mono (suc k) (casesOf t) (omega arith)
+  body-within k l = omega (arith, begins-mono (suc k) (casesOf t) (omega arith))

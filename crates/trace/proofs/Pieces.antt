@@ -41,7 +41,7 @@ further o more = onward (o .answer .ending) o more
 abbrev pub counted : ℕ → Outcome → Outcome
 counted n o = record { answer = record { ending = o .answer .ending; done = n + o .answer .done; qc = o .answer .qc }; file = o .file }
 
-abbrev from : ℕ → State → State
+abbrev pub from : ℕ → State → State
 from n s = record { file = s .file; qc = s .qc; done = n + s .done }
 
 module _ (L : ℕ) where
@@ -70,7 +70,7 @@ module _ (L : ℕ) where
   unfolding after
   after-from n op s = ap (λ (k : ℕ). record { file = fileOf L (step op (byteAt L (s .file))); qc = flagAfter op (byteAt L (s .file)) (s .qc); done = k }) (let e : n + s .done + 1 ≡ n + (s .done + 1) = omega arith in e)
 
-  run-from : (n : ℕ) (xs : List ℕ) (s : State) → run L xs (from n s) ≡ counted n (run L xs s)
+  pub run-from : (n : ℕ) (xs : List ℕ) (s : State) → run L xs (from n s) ≡ counted n (run L xs s)
   unfolding run
   run-from n [] s = refl
   run-from n (w ∷ xs) s = counted-by n w xs s (λ op. ap (run L xs) (after-from n op s) ∙ run-from n xs (after L op s)) (decodeOf w)

@@ -8,7 +8,7 @@ use Prim.Native.Nat.{ℕ, zero, suc, _+_, _*_, _/_, _%_, _<_, _≤_}
 use native.Mathlib.Nat.{add-zero}
 use native.Mathlib.Omega.{arith}
 use lib.ListN.{length, getD, getElem?, take, drop, length-append, length-take, take-append-drop}
-use lib.Seq.{take-length, append-snoc, getD-drop, drop-drop, take-at, drop-at}
+use lib.Seq.{take-length, append-snoc, drop-drop, take-at, drop-at}
 use Rattle.isa.specs.Bytes.{wordOf, wordAt, wordsOf}
 use Rattle.isa.specs.File.{legal}
 use Rattle.isa.proofs.File.{legal-exact}
@@ -19,6 +19,7 @@ use Rattle.trace.specs.Recorded.{Recording, fourOf, foursOf, flagNumber,
 use Rattle.trace.specs.Recorded.{Recordable, At, AllRecordable, readAs, Reads}
 use Rattle.trace.specs.declared.types.Accepted.{Accepted}
 use Rattle.trace.proofs.Contents.{contents-exact, total-exact}
+use Rattle.trace.proofs.Prefix.{word-drop}
 
 -- ---- numbers in four bytes
 
@@ -40,16 +41,6 @@ fours-words : (ns : List ℕ) → ((i : ℕ) → i < length ns → getD ns i 0 <
 unfolding fourOf foursOf wordsOf
 fours-words [] h = refl
 fours-words (n ∷ ns) h = rw (four-bytes n (h 0 (omega arith)), fours-words ns (λ i l. h (suc i) (omega arith)))
-
-word-drop : (b : List ℕ) (m at n : ℕ) → n ≡ m + at → wordAt b n ≡ wordAt (drop m b) at
-unfolding wordAt
-word-drop b m at n e =
-    let byte : (i j : ℕ) → i ≡ m + j → getD b i 0 ≡ getD (drop m b) j 0 = λ i j f. rw (f, getD-drop) in
-    let e₀ = byte n at e in
-    let e₁ = byte (n + 1) (at + 1) (omega arith) in
-    let e₂ = byte (n + 2) (at + 2) (omega arith) in
-    let e₃ = byte (n + 3) (at + 3) (omega arith) in
-    omega arith
 
 -- ---- a body
 

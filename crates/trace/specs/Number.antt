@@ -1,9 +1,11 @@
--- The numbers of request A9 for every case of every answer, and the values returned beside them. For the verdicts that the request does not number, the
+-- The numbers of requests A9 and A10 for every case of every answer, and the values returned beside them. For the verdicts that the request does not number, the
 -- kinds are those of the calls for C.
 use Prim.Native.Nat.{ℕ}
 use Rattle.trace.specs.declared.types.Verdict.{Verdict}
 use Rattle.trace.specs.declared.types.Accepted.{Accepted}
 use Rattle.trace.specs.declared.types.Judged.{Judged}
+use Rattle.trace.specs.declared.types.End.{End}
+use Rattle.trace.specs.declared.types.Told.{Told}
 
 -- ---- a verdict: its kind, and the place: a byte of the file, or a word. The byte beside a place that differs is the run's (`compared`; `compared-differs`)
 
@@ -55,3 +57,25 @@ judgedPlace (Judged.Case v) = verdictPlace v
 judgedPlace Judged.BadContents = 0
 judgedPlace Judged.BadTotal = 0
 judgedPlace Judged.NoCase = 0
+
+-- ---- a stream: how it ended, and what a call tells: 0 with a verdict or nothing, 15 and 16 with none
+
+abbrev pub endNumber : End → ℕ
+endNumber End.Complete = 0
+endNumber End.BadContents = 15
+endNumber End.BadTotal = 16
+
+abbrev pub toldNumber : Told → ℕ
+toldNumber Told.Nothing = 0
+toldNumber (Told.Case v) = 0
+toldNumber (Told.Over e) = endNumber e
+
+abbrev pub toldKind : Told → ℕ
+toldKind Told.Nothing = 0
+toldKind (Told.Case v) = verdictKind v
+toldKind (Told.Over e) = 0
+
+abbrev pub toldPlace : Told → ℕ
+toldPlace Told.Nothing = 0
+toldPlace (Told.Case v) = verdictPlace v
+toldPlace (Told.Over e) = 0

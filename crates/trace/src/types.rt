@@ -27,3 +27,17 @@ pub enum Judged {
     BadTotal,
     NoCase,
 }
+
+// How a stream ended: with all bodies whole, or with the first refusal that applies.
+pub enum End {
+    Complete,
+    BadContents,
+    BadTotal,
+}
+
+// What a call with bytes of a stream tells.
+pub enum Told {
+    Nothing,
+    Case(Verdict),
+    Over(End),
+}

@@ -4,7 +4,6 @@ use mathlib.Core.Path.{_≡_, sym, ap, _∙_}
 use native.Mathlib.Omega.{arith}
 use borrow.Author.Needs.{needs}
 use lib.ListN.{length}
-use Rattle.isa.proofs.File.{legal-exact}
 use Rattle.replay.proofs.Parts.{stopped-verdict, done-verdict}
 use Rattle.replay.proofs.body.replayed_on.Statement.{statement}
 use Rattle.replay.proofs.body.replayed_on.Tie as tie
@@ -31,7 +30,7 @@ compare-requires c κs =
     let l = r .before .before .before .before in
     let s = l .before .before .before .before .before .before in
     let size = r .run-bytes .kept .1 .0 ∙ ap length (l .load .ensures) ∙ s .pre .1 .sized in
-    record { same = s .pre .1 .beside ∙ sym size; whole = omega (arith, size, legal-exact (s .args .l) .0 (s .pre .1 .ok) .whole) }
+    s .pre .1 .beside ∙ sym size
 
 returns-2 : tie.Need-returns-2
 returns-2 c =

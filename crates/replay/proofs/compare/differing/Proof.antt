@@ -20,7 +20,7 @@ loop-holds : tie.Need-loop-holds Inv-loop μ-loop
 loop-holds c = c .pre .1
 
 shared-slice-read-if1-2 : tie.Need-shared-slice-read-if1-2 Inv-loop μ-loop
-shared-slice-read-if1-2 c = let s = c .before .before .before .before in omega (arith, s .pre .0 .same)
+shared-slice-read-if1-2 c = let s = c .before .before .before .before in omega (arith, s .pre .0)
 
 returns : tie.Need-returns Inv-loop μ-loop
 returns c =
