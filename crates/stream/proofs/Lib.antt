@@ -1,0 +1,16 @@
+pub mod Padded
+-- a body
+pub mod Begun
+pub mod Ran
+pub mod Said
+pub mod Known
+pub mod Moved
+-- the contents
+pub mod Numbers
+pub mod Listed
+-- the bodies
+pub mod Rows
+pub mod Judged
+-- the calls
+pub mod Fed
+pub mod Called

@@ -1,0 +1,33 @@
+-- The words are run where nothing is known but that the case agrees.
+-- Assumes nothing.
+use mathlib.Core.Path.{_≡_, sym, ap, _∙_}
+use native.Mathlib.Omega.{arith}
+use borrow.Author.Needs.{needs}
+use Rattle.isa.specs.Run.{Outcome}
+use Rattle.stream.proofs.Known.{known-picked, executed, done-few}
+use Rattle.stream.proofs.case.execute.Statement.{statement}
+use Rattle.stream.proofs.case.execute.Tie as tie
+
+returns : tie.Need-returns
+returns c = let s = c .before .before .before .args .s in sym (known-picked _ _ (s .said) (c .match .keys2))
+
+add-stopped : tie.Need-add-stopped
+add-stopped c =
+    let r = c .before .before .before in
+    let st = r .before .before .before .before .before .before in
+    let a = st .args in
+    let few = done-few (a .l) (a .file .now) (a .s .qc) (a .words .now) (st .pre .0) (st .pre .1) in
+    let same = ap (λ (o : Outcome). o .answer .done) (r .run-bytes .ensures) in
+    omega (arith, st .pre .2, st .pre .1)
+
+returns-2 : tie.Need-returns-2
+returns-2 c =
+    let r = c .before .before .before .before in
+    let m = r .before .before in
+    let a = m .before .before .before .before .args in
+    executed (a .done) (a .s .said) (m .enum-told .given .1) _ (r .run-bytes .result) _ (r .run-bytes .ensures) _ (c .stopped .ensures) _
+
+pub execute-spec : {M : Type 1} → statement M
+execute-spec =
+    tie.close
+    (tie.spec (λ c. search needs) returns (λ c κs. search needs) add-stopped (λ c κs. search needs) (λ c. search needs) returns-2)
