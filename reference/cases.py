@@ -174,7 +174,7 @@ def files():
     yield from stored("codec_cases", cases)
     yield from stored("kernel_cases", list(dict.fromkeys(kernel_cases.cases(Source(4)))))
     yield from stored("cases", list(dict.fromkeys(run_cases.cases(Source(5)))))
-    yield from stored("replay_cases", list(replay_cases.cases(Source(6))))  # a put may come twice
+    yield from stored("replay_cases", list(replay_cases.cases(Source(6), Source(7))))  # a put may come twice
 
     source = Source(3)
     listed = [word for word, _ in model.P1_TO_P7] + list(source.mix(2000))

@@ -1,10 +1,14 @@
-"""The stored cases of the program replay_cases: traces that are checked, and cases of them that are judged.
+"""The stored cases of the program replay_cases: traces that are checked, cases of them that are judged, and
+the same traces in pieces.
 
 A record begins with three little-endian numbers of 4 bytes: the kind, a and b. Kind 1 puts the b bytes
 that follow into a buffer, from place a on; it has 65,600 bytes, zero at first, and lasts from record to
 record. Kind 2 asks: its first a bytes are a trace, of which case b is judged. The line of an ask has the
 check's number and number of cases, and the judgement's number, kind, place and the byte that the run
-leaves there. A put has no line.
+leaves there. A put has no line. Kind 3 hands the first a bytes to a stream: a piece of b % 65,536 bytes, then
+of b / 65,536 bytes, each behind an empty one. Its line has the answers that tell something, each the bytes
+taken, the number, the kind and the place; the number of an end; and behind that the four numbers of a byte
+handed in, and the number of an end.
 """
 
 import struct
@@ -16,10 +20,11 @@ from execution import LENGTHS, MOST_WORDS
 from model import CADD, SQRDMLAH, VECTOR_128, B, H, Operation
 from replay import MOST_BYTES, MOST_CASES, numbers
 from run_cases import SEEDS, bytes_from
+from stream import Stream, calls, sizes
 from traces import Case, places, record
 
 ROOM = 65600
-PUT, ASK = 1, 2  # the kinds
+PUT, ASK, HAND = 1, 2, 3  # the kinds
 ALL_ONES = 2**32 - 1
 WRONG_LENGTHS = (0, 1, 127, 129, 384, 1920, 2049, 2176, 4096, 2**16 + 128, 2**29 + 128, 2**31, ALL_ONES)
 WRONG_FLAGS = (2, 3, 255, 256, 257, 2**16, 2**24, 2**31, ALL_ONES)
@@ -48,6 +53,26 @@ class Maker(run_cases.Maker):
         trace = bytes(self.buffer[:size])
         answer = *replay.check(trace), *replay.judge(trace, n)
         return numbers(ASK, size, n), " ".join(map(str, answer)) + "\n"
+
+    def hand(self, size, first, step=2**16 - 1):
+        """All but the first piece at once, where no step is told."""
+        model, trace = Stream(), bytes(self.buffer[:size])
+        every = calls(model, trace, sizes(first, step))
+        told = [number for piece, answer in every if answer != (len(piece), 0, 0, 0) for number in answer]
+        told += [model.end(), *model.feed(b"\1"), model.end()]
+        return numbers(HAND, size, first | step << 16), " ".join(map(str, told)) + "\n"
+
+    def handed(self, records, cuts):
+        """Each trace that is asked for once more, in pieces."""
+        known = set()
+        for one, line in records:
+            yield one, line
+            kind, size, _ = struct.unpack_from("<3I", one)
+            trace = bytes(self.buffer[:size])
+            if kind == ASK and trace not in known:
+                known.add(trace)
+                first = cuts.below(cuts.choose((1, 8, 50, min(size, 2**16 - 1) + 1)))
+                yield self.hand(size, first, 1 + size // 12 + cuts.below(cuts.choose((1, 4, 16, 600, 20000))))
 
     def changed(self, changes, asks):
         """Asks with other bytes at some places, which then get back their own."""
@@ -281,7 +306,17 @@ class Maker(run_cases.Maker):
                 asks = [(size, self.source.below(count)), (size, self.source.below(count + 1))]
                 yield from self.changed([(at, byte_of(new))], asks)
 
-    def cases(self):
+    # -- traces in pieces
+
+    def every_cut(self):
+        """A short trace cut at every byte, and its first bytes up to every byte, with an end behind them."""
+        trace = self.trace_of([(128, 1)])
+        yield self.put(0, trace)
+        for cut in range(len(trace) + 1):
+            yield self.hand(len(trace), cut)
+            yield self.hand(cut, cut // 2)
+
+    def asked(self):
         yield from self.many()
         yield from self.entries()
         yield from self.gaps()
@@ -295,6 +330,11 @@ class Maker(run_cases.Maker):
         yield from self.long()
         yield from self.damaged()
 
+    def cases(self, cuts):
+        yield from self.handed(self.asked(), cuts)
+        yield from self.every_cut()
 
-def cases(source):
-    yield from Maker(source).cases()
+
+def cases(source, cuts):
+    """The cuts have a source of their own."""
+    yield from Maker(source).cases(cuts)
