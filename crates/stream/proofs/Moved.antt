@@ -5,27 +5,25 @@ use mathlib.Core.List.{List, [], _∷_, _++_, append-assoc}
 use mathlib.Core.Bool.{Bool, true, false, _&&_, _||_, true≢false}
 use Prim.Native.Nat.{ℕ, _+_, _*_, _-_, _/_, _%_, _<_, _≤_}
 use native.Mathlib.Omega.{arith}
-use native.Mathlib.Decide.{decLe, ℕ-discrete}
+use native.Mathlib.Decide.{decLe}
 use lib.Dec.{leb, ltb}
 use lib.ListN.{length, getD, set, take, drop, length-append, length-take, length-drop, drop-of-length-le, take-append-drop}
 use lib.Seq.{take-all, drop-append-le, drop-drop}
 use borrow.Author.Tests.{leb-true, ltb-true, le-leb, lt-leb, lt-ltb, le-ltb}
 use Rattle.isa.specs.Bytes.{wordAt, wordsOf}
-use Rattle.isa.specs.File.{legal}
-use Rattle.isa.specs.Run.{Outcome, outcomeOf, start, run}
+use Rattle.isa.specs.Run.{Outcome, start}
 use Rattle.isa.proofs.Bytes.{words-length}
 use Rattle.isa.proofs.Fields.{and-left, and-right}
-use Rattle.isa.proofs.File.{legal-exact, cases}
+use Rattle.isa.proofs.File.{legal-exact}
 use Rattle.isa.proofs.FileChecks.{check-passed}
 use Rattle.isa.proofs.Going.{outcome-runs}
-use Rattle.trace.specs.Trace.{bodySize}
 use Rattle.trace.specs.Verdict.{partsOf, isFlag, flagOf}
 use Rattle.trace.proofs.Pieces.{run-kept}
 use Rattle.stream.specs.Body.{padded, pickBytes, beforeIn, ranIn, standingIn, inFile, heldIn, Stands, InBody}
 use Rattle.stream.specs.Steps.{standingBefore, standingAfter, standingBeside, Worked, worked, Allowed, NumberEnds, NumberByte, NumberStands, BytesMove}
 use Rattle.stream.specs.declared.state.Standing.{Standing}
 use Rattle.stream.specs.declared.state.Course.{Course}
-use Rattle.stream.proofs.Padded.{padded-take, part-padded, padded-front, padded-put, padded-store, padded-none, padded-whole}
+use Rattle.stream.proofs.Padded.{padded-take, part-padded, padded-front, padded-put, padded-store, padded-whole}
 use Rattle.stream.proofs.Ran.{file-early, standing-early, before-append, words-move, ran-partial, ran-behind}
 use Rattle.stream.proofs.Said.{flag-moves, left-moves}
 

@@ -1,19 +1,18 @@
 -- The run of the words of a body that have come. `run-onward`: words behind others go on where those ended with done, and change nothing where they
 -- stopped. `ran-early`, `standing-early`: before the first word is whole. `words-move`: whole words more. `ran-partial`: less than a word more. Assumes nothing.
-use mathlib.Core.Path.{_≡_, refl, sym, ap, ap₂, _∙_}
+use mathlib.Core.Path.{_≡_, refl, sym, ap, _∙_}
 use mathlib.Core.List.{List, [], _∷_, _++_, append-nil}
 use mathlib.Core.Bool.{Bool, true, false}
 use Prim.Native.Nat.{ℕ, _+_, _*_, _-_, _/_, _%_, _<_, _≤_}
 use native.Mathlib.Omega.{arith}
-use lib.Dec.{leb}
 use native.Mathlib.Decide.{decLe}
 use lib.ListN.{length, take, drop, length-append, length-take, length-drop, drop-of-length-le}
 use lib.Seq.{take-all, take-append-le, drop-append-le}
 use borrow.Author.Tests.{lt-leb, le-leb}
-use Rattle.isa.specs.Bytes.{wordAt, wordsOf}
+use Rattle.isa.specs.Bytes.{wordsOf}
 use Rattle.isa.specs.Decode.{decodeOf}
 use Rattle.isa.specs.File.{legal, checkOf}
-use Rattle.isa.specs.Run.{State, start, after, Outcome, ended, run, checkedRun, outcomeOf}
+use Rattle.isa.specs.Run.{State, start, after, Outcome, run, checkedRun, outcomeOf}
 use Rattle.isa.specs.declared.types.Checked.{Checked}
 use Rattle.isa.specs.declared.types.Decoded.{Decoded}
 use Rattle.isa.specs.declared.types.Ending.{Ending}
@@ -27,7 +26,7 @@ use Rattle.trace.specs.Verdict.{partsOf, isFlag, flagOf, pickVerdict}
 use Rattle.trace.specs.declared.types.Verdict.{Verdict}
 use Rattle.trace.proofs.Pieces.{counted, from, run-from, run-kept}
 use Rattle.trace.proofs.Prefix.{word-append}
-use Rattle.stream.specs.Body.{beforeIn, pickBytes, ranIn, stopSaid, saidEarly, standingIn}
+use Rattle.stream.specs.Body.{beforeIn, pickBytes, ranIn, stopSaid, standingIn}
 use Rattle.stream.specs.Steps.{standingBefore, worked, NumberByte}
 use Rattle.stream.specs.declared.state.Standing.{Standing}
 

@@ -1,19 +1,18 @@
 -- What is said of a case as QC after and the file after come. `flag-moves`: QC after. `left-moves`: bytes of the file after. `compared-append`: two files
 -- compared in parts. Assumes nothing.
-use mathlib.Core.Path.{_≡_, refl, sym, ap, ap₂, _∙_}
+use mathlib.Core.Path.{_≡_, refl, sym, ap, _∙_}
 use mathlib.Core.List.{List, [], _∷_, _++_}
 use mathlib.Core.Bool.{Bool, true, false, _&&_}
-use Prim.Native.Nat.{ℕ, suc, _+_, _*_, _-_, _/_, _%_, _<_, _≤_}
+use Prim.Native.Nat.{ℕ, suc, _+_, _*_, _-_, _≤_}
 use native.Mathlib.Nat.{add-zero, zero-add}
 use native.Mathlib.Omega.{arith}
-use lib.Dec.{leb, eqb}
+use lib.Dec.{eqb}
 use lib.ListN.{length, take, drop, length-append, length-take, length-drop, drop-of-length-le}
 use lib.Seq.{drop-append-seam, drop-append-le}
 use borrow.Author.Tests.{le-leb}
 use Rattle.isa.specs.Bytes.{wordAt, wordsOf}
 use Rattle.isa.specs.File.{legal}
 use Rattle.isa.specs.Run.{Outcome, outcomeOf}
-use Rattle.isa.specs.declared.types.Ending.{Ending}
 use Rattle.isa.proofs.Bytes.{words-length}
 use Rattle.isa.proofs.File.{cases}
 use Rattle.isa.proofs.Run.{Stop}

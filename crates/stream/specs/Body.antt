@@ -1,7 +1,7 @@
 -- What is kept of a body of length L and W words of which the bytes b have come: the run's file and flag so far, and what is said so far. The file after
 -- is not kept: it is compared as it comes.
 use Prim.Native.Nat.{ℕ, _+_, _*_, _-_, _/_}
-use mathlib.Core.List.{List, [], _∷_, _++_}
+use mathlib.Core.List.{List, [], _++_}
 use mathlib.Core.Bool.{Bool, true, false, _&&_, _||_}
 use mathlib.Core.Path.{_≡_}
 use lib.Dec.{leb, ltb}

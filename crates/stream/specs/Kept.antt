@@ -1,6 +1,6 @@
 -- The state that a stream leaves: a function of all bytes so far while it is live, and of the answer where it is over. The contracts of `new`, `feed` and
 -- `end` say that it is kept. Request A10.
-use Prim.Native.Nat.{ℕ, _+_, _*_, _-_, _/_, _≤_}
+use Prim.Native.Nat.{ℕ, _*_, _-_, _/_, _≤_}
 use mathlib.Core.List.{List, []}
 use mathlib.Core.Bool.{false}
 use mathlib.Core.Path.{_≡_}

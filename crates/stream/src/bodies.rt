@@ -8,6 +8,7 @@ ghost use Rattle.stream.specs.Steps.{Allowed, allowedAt, Judges, JudgesC
 use crate::body::body_bytes;
 use crate::bytes::clear;
 use crate::state::Course;
+use crate::state::IMAGE;
 use crate::state::Marks;
 use crate::state::Phase;
 use crate::state::Stepped;
@@ -19,9 +20,6 @@ use replay::contents::body_size;
 use replay::contents::wide;
 use trace::types::End;
 use trace::types::Told;
-
-// The image comes before the contents.
-const IMAGE: usize = 8192;
 
 // Marks within the bodies.
 fn bodies(m: Marks, case: usize, course: Course) -> Marks

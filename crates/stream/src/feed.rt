@@ -6,15 +6,13 @@ ghost use Rattle.stream.specs.Steps.{Takes, Fills, FeedsHeld, ClosesMark
 use crate::bodies::bodies_bytes;
 use crate::bytes::clear;
 use crate::contents::contents_byte;
+use crate::state::IMAGE;
 use crate::state::Marks;
 use crate::state::Phase;
 use crate::state::Stepped;
 use crate::state::refuse;
 use trace::types::End;
 use trace::types::Told;
-
-// The image comes before the contents.
-const IMAGE: usize = 8192;
 
 // Some of the bytes: up to and with the last of a part or a number, or all. Held are the image and the contents.
 fn step(held: &mut [u8], m: Marks, bytes: &[u8]) -> Stepped

@@ -10,10 +10,10 @@ use trace::types::End;
 use trace::types::Told;
 use trace::types::Verdict;
 
-// The image and the contents together.
-const HELD: usize = 20480;
+// The image, which holds the longest file, comes before the contents where both are held together.
+pub const IMAGE: usize = 8192;
 
-const IMAGE: usize = 8192;
+pub const HELD: usize = 20480;
 
 // What comes next: the table of contents, bodies, or nothing more.
 pub enum Phase {

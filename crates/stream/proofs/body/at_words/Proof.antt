@@ -1,6 +1,5 @@
 -- All tests hold.
 -- Assumes nothing.
-use mathlib.Core.Path.{_≡_}
 use mathlib.Core.Bool.{Bool, _&&_}
 use native.Mathlib.Omega.{arith}
 use Prim.Native.Nat.{_%_}

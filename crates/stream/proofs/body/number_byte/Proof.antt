@@ -1,6 +1,5 @@
 -- With the fourth byte the number is whole.
 -- Assumes nothing.
-use mathlib.Core.Path.{_≡_}
 use native.Mathlib.Omega.{arith}
 use borrow.Author.Needs.{needs}
 use Rattle.isa.proofs.File.{legal-exact}

@@ -1,10 +1,10 @@
 -- The bytes before i are zeros.
 -- Assumes nothing.
-use mathlib.Core.Path.{_≡_, refl, sym, _∙_}
+use mathlib.Core.Path.{refl, sym, _∙_}
 use native.Mathlib.Omega.{arith}
 use borrow.Author.Needs.{needs}
 use Prim.Native.Nat.{_-_}
-use lib.ListN.{length, replicate, length-replicate}
+use lib.ListN.{length, length-replicate}
 use lib.Seq.{ext-getD}
 use Rattle.isa.proofs.Made.{Made, made-none, made-more, made-all, all-same}
 use Rattle.stream.proofs.bytes.clear.Statement.{statement}

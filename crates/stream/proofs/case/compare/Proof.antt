@@ -1,11 +1,10 @@
 -- The first byte that differs, where the comparison is open.
 -- Assumes nothing.
-use mathlib.Core.Path.{_≡_, sym, ap, _∙_}
+use mathlib.Core.Path.{sym, ap, _∙_}
 use native.Mathlib.Omega.{arith}
 use borrow.Author.Needs.{needs}
 use Rattle.trace.specs.declared.types.Verdict.{Verdict}
 use Rattle.trace.proofs.Compared.{compared-same, compared-differs}
-use Rattle.stream.specs.declared.state.Standing.{Standing}
 use Rattle.stream.proofs.Known.{open-picked, closed-picked}
 use Rattle.stream.proofs.case.compare.Statement.{statement}
 use Rattle.stream.proofs.case.compare.Tie as tie

@@ -1,10 +1,9 @@
 -- A flag is 0 or 1, and what is known of the case stays.
 -- Assumes nothing.
-use mathlib.Core.Path.{_≡_, sym, ap, _∙_}
+use mathlib.Core.Path.{sym, ap, _∙_}
 use borrow.Author.Needs.{needs}
 use borrow.Author.Tests.{lt-ltb, le-ltb}
 use Rattle.trace.specs.declared.types.Verdict.{Verdict}
-use Rattle.stream.specs.declared.state.Standing.{Standing}
 use Rattle.stream.proofs.Known.{agrees-picked, known-picked}
 use Rattle.stream.proofs.case.flag_after.Statement.{statement}
 use Rattle.stream.proofs.case.flag_after.Tie as tie

@@ -1,6 +1,5 @@
 -- A flag is 0 or 1.
 -- Assumes nothing.
-use mathlib.Core.Path.{_≡_}
 use native.Mathlib.Omega.{arith}
 use borrow.Author.Tests.{lt-ltb, le-ltb, ne-eqb}
 use Rattle.stream.proofs.case.flag_before.Statement.{statement}
