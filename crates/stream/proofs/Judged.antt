@@ -1,16 +1,16 @@
--- Bytes of a body behind a stream. `judged-on`: the body goes on. `judged-whole`: it is whole, its verdict is told, and the next body starts.
--- Assumes nothing.
+-- Bytes of a body behind a stream. `case-on`: the body goes on. `case-whole`: it is whole, its verdict is told, and the next body starts. `file-size`,
+-- `file-within`: the bytes of its file. `allowed-yes`, `allowed-no`, `allowed-at`, `allowed-true`: whether it is one that the contents allow. Assumes nothing.
 use mathlib.Core.Path.{_≡_, refl, sym, ap, _∙_}
 use mathlib.Core.List.{List, [], _++_}
 use mathlib.Core.Bool.{Bool, true, false, _&&_}
-use Prim.Native.Nat.{ℕ, suc, _+_, _*_, _-_, _<_, _≤_}
+use Prim.Native.Nat.{ℕ, suc, _+_, _*_, _%_, _<_, _≤_}
 use native.Mathlib.Omega.{arith}
 use lib.Dec.{leb, ltb}
 use lib.ListN.{length, take, drop, replicate, length-append, length-take, length-drop, drop-of-length-le}
 use lib.Seq.{length-take-le, take-append-le, drop-append-le}
 use borrow.Author.Tests.{leb-true, ltb-true, le-leb}
 use Rattle.isa.specs.File.{legal, checkOf}
-use Rattle.isa.specs.Run.{Outcome, start, ended, run, pickOutcome, checkedRun, outcomeOf}
+use Rattle.isa.specs.Run.{start, ended, run, pickOutcome, checkedRun, outcomeOf}
 use Rattle.isa.specs.declared.types.Checked.{Checked}
 use Rattle.isa.specs.declared.types.Ending.{Ending}
 use Rattle.isa.proofs.Fields.{and-left, and-right}
@@ -150,7 +150,8 @@ module _
     said : c .standing .said ≡ verdictOf (lengthAt h k) (countAt h k) body
     said = ap (λ (s : Standing). s .said) (in-body .stands .standing) ∙ whole-said _ _ _ body-size
 
-    cleared : (size : ℕ) (zeros : List ℕ) → size ≡ 4 * lengthAt h k → zeros ≡ replicate (length (take size image′)) 0 → zeros ++ drop size image′ ≡ padded 8192 []
+    cleared : (size : ℕ) (zeros : List ℕ) → size ≡ 4 * lengthAt h k → zeros ≡ replicate (length (take size image′)) 0 →
+        zeros ++ drop size image′ ≡ padded 8192 []
     cleared size zeros e f =
         let file = ran-sized (lengthAt h k) (countAt h k) body body-size in
         let most = legal-exact _ .0 (contents-exact h .0 (v .contents) .entries k l .ok) .most in
@@ -171,14 +172,15 @@ module _
         record {
           quiet = quiet;
           told = ap Told.Case said ∙ sym (w .0);
-          kept = rw (g, next, cleared size zeros e f) (within (h ++ piece) (suc k) (w .1) (kept-then h k v piece kept (suc k) freshCourse (rw none (body-starts _ _))));
+          kept = rw (g, next, cleared size zeros e f)
+              (within (h ++ piece) (suc k) (w .1) (kept-then h k v piece kept (suc k) freshCourse (rw none (body-starts _ _))));
         }
 
 -- ---- the bytes that a call of `body_bytes` takes
 
 module _
-    (L W : ℕ) (image : List ℕ) (m : Marks) (bytes : List ℕ) (taken : ℕ) (image′ : List ℕ) (c : Course) (moved : Moves L W bytes image (m .course) taken image′ c)
-    (n : ℕ) (body : n ≡ bodySize L W) (marks : Marks) where
+    (L W : ℕ) (image : List ℕ) (m : Marks) (bytes : List ℕ) (taken : ℕ) (image′ : List ℕ) (c : Course)
+    (moved : Moves L W bytes image (m .course) taken image′ c) (n : ℕ) (body : n ≡ bodySize L W) (marks : Marks) where
   pub case-on : (c .at ≡ n → ⊥) → marks ≡ bodiesMarks m (m .case) c →
       JudgesCase L W image m bytes (record { taken = taken; told = Told.Nothing; marks = marks }) image′
   case-on short e h k contents v l f g kept =
@@ -192,6 +194,13 @@ module _
       (s ∙ ap (bodiesMarks m (m .case + 1)) fresh)
 
 -- ---- a body that the contents allow
+
+-- the bytes of its file, in an image
+pub file-size : (L : ℕ) → legal L ≡ true → L * 4 % 18446744073709551616 ≡ 4 * L
+file-size L ok = let most = legal-exact L .0 ok .most in omega arith
+
+pub file-within : (L : ℕ) (image : List ℕ) → legal L ≡ true → length image ≡ 8192 → L * 4 % 18446744073709551616 ≤ length image
+file-within L image ok size = omega (arith, legal-exact L .0 ok .most)
 
 module _ (L W : ℕ) (r : Bool) (e : r ≡ legal L) where
   pub allowed-yes : (r && leb W 4096) ≡ true → Allowed L W

@@ -12,5 +12,7 @@ pub mod Listed
 pub mod Rows
 pub mod Judged
 -- the calls
+pub mod Phases
 pub mod Fed
 pub mod Called
+pub mod Cut

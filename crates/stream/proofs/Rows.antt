@@ -1,24 +1,24 @@
--- The case at hand, whose length and word count are read of the contents that are held behind the image. `row-place`: where its entry stands.
--- `rows-case`: bytes of its body. `rows-past`: behind the last body. `rows-few`, `rows-allowed`: what no stream leaves. Assumes nothing.
+-- The case at hand, whose length and word count are read of the contents that are held behind the image (`image-part`). `row-place`: where its entry
+-- stands. `rows-case`: bytes of its body. `rows-past`: behind the last body; `first-byte`, `one-taken`: one byte. `rows-few`, `rows-allowed`: what no stream
+-- leaves. Assumes nothing.
 use mathlib.Core.Path.{_≡_, refl, sym, ap, _∙_}
 use mathlib.Core.List.{List, [], _∷_, _++_}
 use mathlib.Core.Bool.{true, false, true≢false}
-use Prim.Native.Nat.{ℕ, suc, _+_, _*_, _%_, _<_, _≤_}
+use Prim.Native.Nat.{ℕ, _+_, _*_, _%_, _<_, _≤_}
 use native.Mathlib.Omega.{arith}
 use lib.ListN.{length, getD, take, drop, length-take, length-drop, take-append-drop}
 use lib.Seq.{length-take-le, take-suc, take-at, drop-at}
 use borrow.Author.Tests.{le-leb, lt-ltb}
 use Rattle.isa.specs.Bytes.{wordAt}
 use Rattle.trace.specs.Trace.{casesOf, lengthAt, countAt, bodySize, begins}
-use Rattle.trace.specs.Stream.{dueOf, Within, then}
-use Rattle.trace.specs.declared.types.Told.{Told}
+use Rattle.trace.specs.Stream.{Within}
 use Rattle.trace.specs.declared.types.End.{End}
 use Rattle.trace.proofs.Contents.{contents-exact}
 use Rattle.trace.proofs.Live.{contents-whole, past-within}
 use Rattle.trace.proofs.Prefix.{word-append, word-drop}
 use Rattle.stream.specs.Contents.{refusedOn}
 use Rattle.stream.specs.Kept.{entriesIn, KeptWithin}
-use Rattle.stream.specs.Steps.{Allowed, allowedAt, Steps, JudgesCase, Judges}
+use Rattle.stream.specs.Steps.{allowedAt, JudgesCase, Judges}
 use Rattle.stream.specs.declared.state.Marks.{Marks}
 use Rattle.stream.specs.declared.state.Stepped.{Stepped}
 use Rattle.stream.proofs.Padded.{padded-word}
@@ -27,9 +27,6 @@ use Rattle.stream.proofs.Padded.{padded-word}
 
 pub image-part : (held : List ℕ) → length held ≡ 20480 → length (take 8192 held) ≡ 8192
 image-part held size = length-take-le 8192 held (omega arith)
-
-pub contents-part : (held : List ℕ) → length held ≡ 20480 → length (drop 8192 held) ≡ 12288
-contents-part held size = simp length-drop (omega arith)
 
 -- ---- one byte that is refused
 

@@ -19,10 +19,9 @@ use Rattle.trace.specs.Number.{endNumber, acceptedNumber, acceptedCases}
 use Rattle.trace.specs.Returned.{ContentsAllowed, TotalAllowed, AcceptReturns}
 use Rattle.trace.specs.Stream.{pickEnd, dueOf, Listing, Within, live, over, start, then}
 use Rattle.trace.specs.Feed.{endOf, Whole, wholeOn, wholeFrom, Calls}
-use Rattle.trace.specs.Streamed.{endingOf, acceptedBy, verdictsFrom, Streamed}
+use Rattle.trace.specs.Streamed.{endingOf, acceptedBy, verdictsFrom, Streamed, Replayed}
 use Rattle.trace.specs.declared.types.Verdict.{Verdict}
 use Rattle.trace.specs.declared.types.Accepted.{Accepted}
-use Rattle.trace.specs.declared.types.Judged.{Judged}
 use Rattle.trace.specs.declared.types.Told.{Told}
 use Rattle.trace.specs.declared.types.End.{End}
 use Rattle.trace.proofs.Contents.{contents-numbers, contents-exact, begins-mono}
@@ -206,13 +205,6 @@ pub ended-short : {t : List ℕ} {w : Whole} → Calls start t w → length t �
 ended-short {t} {w} c l = ap endNumber (streamed c .ends) ∙ number-by t (endingOf t) ∙ ap acceptedNumber (sym (accept-ends t l))
 
 -- ---- a trace that A9 accepts, with c cases
-
--- the end is no refusal, there are c verdicts, and verdict k is the one that asking for case k gives
-pub record Replayed (t : List ℕ) (c : ℕ) (verdicts : List Verdict) (end : End) : Type 0 where
-  pub complete : end ≡ End.Complete
-  pub count : length verdicts ≡ c
-  pub verdict : (k : ℕ) → k < c → getElem? verdicts k ≡ some (caseOf t k)
-  pub judged : (k : ℕ) → k < c → judgeOf t k ≡ Judged.Case (caseOf t k)
 
 verdicts-length : (t : List ℕ) (k n : ℕ) → length (verdictsFrom t k n) ≡ n
 unfolding verdictsFrom

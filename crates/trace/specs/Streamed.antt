@@ -1,15 +1,17 @@
 -- What a stream says of a trace of any size, by A9's rules. The theorem `streamed` (proofs/Streamed.antt) says that it does, however the trace is cut.
 use Prim.Native.Nat.{ℕ, zero, suc, _<_, _≤_}
 use mathlib.Core.Path.{_≡_}
+use mathlib.Core.Option.{some}
 use mathlib.Core.List.{List, [], _∷_}
-use mathlib.Core.Bool.{Bool, true, false}
+use mathlib.Core.Bool.{true, false}
 use lib.Dec.{eqb}
-use lib.ListN.{length}
+use lib.ListN.{length, getElem?}
 use Rattle.trace.specs.Trace.{casesOf, begins, totalOf, contentsAllowed}
-use Rattle.trace.specs.Verdict.{caseOf}
+use Rattle.trace.specs.Verdict.{caseOf, judgeOf}
 use Rattle.trace.specs.Stream.{pickEnd}
 use Rattle.trace.specs.declared.types.Verdict.{Verdict}
 use Rattle.trace.specs.declared.types.Accepted.{Accepted}
+use Rattle.trace.specs.declared.types.Judged.{Judged}
 use Rattle.trace.specs.declared.types.End.{End}
 
 -- 15, then 16 for a wrong total
@@ -37,3 +39,17 @@ pub record Streamed (t : List ℕ) (verdicts : List Verdict) (end : End) : Type 
   pub none : contentsAllowed t ≡ false → n ≡ 0
   pub there : contentsAllowed t ≡ true → begins t n ≤ length t
   pub all : contentsAllowed t ≡ true → n < casesOf t → length t < begins t (suc n)
+
+-- of a trace that A9 accepts, with c cases (`verdict-is-replay`): the end is no refusal, there are c verdicts, and verdict k is the one that asking for case k gives
+pub record Replayed (t : List ℕ) (c : ℕ) (verdicts : List Verdict) (end : End) : Type 0 where
+  pub complete : end ≡ End.Complete
+  pub count : length verdicts ≡ c
+  pub verdict : (k : ℕ) → k < c → getElem? verdicts k ≡ some (caseOf t k)
+  pub judged : (k : ℕ) → k < c → judgeOf t k ≡ Judged.Case (caseOf t k)
+
+-- a verdict falls due with the last byte of its body alone (`verdict-due`, proofs/Due.antt)
+pub record EndsBody (h : List ℕ) (v : Verdict) : Type 0 where
+  pub k : ℕ
+  pub below : k < casesOf h
+  pub here : length h ≡ begins h (suc k)
+  pub verdict : v ≡ caseOf h k

@@ -37,7 +37,8 @@ returns-2 c =
     let r = b .case-bytes .ensures in (
       r .0,
       r .1,
-      rows-case (s .args .held .now) (s .args .m) (s .args .bytes .now) _ (i .before .if1 .left) _ _ _ (row-place _ (i .if2 .taken)) (w₁ .wide .ensures ∙ w₁ .before .word-at .ensures)
+      rows-case (s .args .held .now) (s .args .m) (s .args .bytes .now) _ (i .before .if1 .left) _ _ _ (row-place _ (i .if2 .taken))
+          (w₁ .wide .ensures ∙ w₁ .before .word-at .ensures)
           (w₂ .wide2 .ensures ∙ w₂ .before .word-at2 .ensures) _ (b .case-bytes .kept .0 ∙ image-part (s .args .held .now) (s .pre .0)) (r .2),
     )
 

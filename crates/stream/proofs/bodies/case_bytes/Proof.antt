@@ -1,12 +1,10 @@
 -- The body goes on, or it is whole.
 -- Assumes nothing.
-use native.Mathlib.Omega.{arith}
 use borrow.Author.Needs.{needs}
 use lib.Seq.{length-take-le}
-use mathlib.Core.Path.{_≡_, sym, _∙_}
-use Prim.Native.Nat.{_*_, _%_}
+use mathlib.Core.Path.{sym, _∙_}
 use Rattle.isa.proofs.File.{legal-exact}
-use Rattle.stream.proofs.Judged.{case-on, case-whole}
+use Rattle.stream.proofs.Judged.{file-size, file-within, case-on, case-whole}
 use Rattle.stream.proofs.bodies.case_bytes.Statement.{statement}
 use Rattle.stream.proofs.bodies.case_bytes.Tie as tie
 
@@ -19,13 +17,10 @@ slice-relend-prefix-clear : tie.Need-slice-relend-prefix-clear
 slice-relend-prefix-clear c =
     let b = c .before .before .before .before .before .before .before in
     let s = b .before .before .before .before .before in
-    omega (arith, legal-exact _ .0 (s .pre .1 .0 .ok) .most, b .body-bytes .kept, s .pre .0 .0)
+    file-within (s .args .l) (b .body-bytes .last .0) (s .pre .1 .0 .ok) (b .body-bytes .kept .0 ∙ s .pre .0 .0)
 
 slice-aggregate-clear : tie.Need-slice-aggregate-clear
-slice-aggregate-clear c =
-    let b = c .before .before .before .before .before .before .before .before in
-    let s = b .before .before .before .before .before in
-    sym (length-take-le _ _ (omega (arith, legal-exact _ .0 (s .pre .1 .0 .ok) .most, b .body-bytes .kept, s .pre .0 .0)))
+slice-aggregate-clear c = sym (length-take-le _ _ (slice-relend-prefix-clear (c .before)))
 
 returns : tie.Need-returns
 returns c =
@@ -34,13 +29,11 @@ returns c =
     let z = i .before .before in
     let b = z .before .before .before .before in
     let s = b .before .before .before .before .before in
-    let short = legal-exact _ .0 (s .pre .1 .0 .ok) .most in
-    let size : s .args .l * 4 % 18446744073709551616 ≡ 4 * s .args .l = omega (arith, short) in
     let moved = b .body-bytes .ensures in (
       moved .some,
       moved .most,
       case-whole (s .args .l) (s .args .w) _ (s .args .m) _ _ _ _ moved (z .body-size .result) (z .body-size .ensures) _ (i .if1 .taken) _
-          size _ (r .clear .ensures) _ (c .before .fresh .ensures) (c .bodies .ensures),
+          (file-size (s .args .l) (s .pre .1 .0 .ok)) _ (r .clear .ensures) _ (c .before .fresh .ensures) (c .bodies .ensures),
     )
 
 returns-2 : tie.Need-returns-2
@@ -51,7 +44,8 @@ returns-2 c =
     let moved = b .body-bytes .ensures in (
       moved .some,
       moved .most,
-      case-on (s .args .l) (s .args .w) _ (s .args .m) _ _ _ _ moved (z .body-size .result) (z .body-size .ensures) _ (c .before .if1 .left) (c .bodies2 .ensures),
+      case-on (s .args .l) (s .args .w) _ (s .args .m) _ _ _ _ moved (z .body-size .result) (z .body-size .ensures) _ (c .before .if1 .left)
+          (c .bodies2 .ensures),
     )
 
 pub case-bytes-spec : {M : Type 1} → statement M

@@ -1,7 +1,7 @@
 -- Within the contents, in the bodies, or over already.
 -- Assumes nothing.
 use borrow.Author.Needs.{needs}
-use Rattle.stream.proofs.Fed.{close-contents, close-whole, close-short, close-ended}
+use Rattle.stream.proofs.Phases.{close-contents, close-whole, close-short, close-ended}
 use Rattle.stream.proofs.feed.close.Statement.{statement}
 use Rattle.stream.proofs.feed.close.Tie as tie
 

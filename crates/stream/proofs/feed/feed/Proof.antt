@@ -2,7 +2,7 @@
 -- Assumes nothing.
 use mathlib.Core.Path.{_∙_}
 use borrow.Author.Needs.{needs}
-use Rattle.stream.proofs.Fed.{feed-ended, feed-goes, feed-refused}
+use Rattle.stream.proofs.Called.{feed-ended, feed-goes, feed-refused}
 use Rattle.stream.proofs.feed.feed.Statement.{statement}
 use Rattle.stream.proofs.feed.feed.Tie as tie
 

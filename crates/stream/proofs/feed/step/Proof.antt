@@ -11,7 +11,8 @@ returns c =
     let t = b .before .before .before in
     let s = t .before .before .before .before in
     let r = b .contents-byte .ensures in
-    step-contents (s .args .held .now) (s .args .m) (s .args .bytes .now) (s .pre .0) (s .pre .1) _ _ (b .contents-byte .kept .0) (t .enum-told .given .1) (r .0) (r .1)
+    step-contents (s .args .held .now) (s .args .m) (s .args .bytes .now) (s .pre .0) (s .pre .1) _ _ (b .contents-byte .kept .0)
+    (t .enum-told .given .1) (r .0) (r .1)
 
 returns-2 : tie.Need-returns-2
 returns-2 c =

@@ -3,7 +3,7 @@
 use mathlib.Core.Path.{_≡_, sym, _∙_}
 use borrow.Author.Needs.{needs}
 use lib.ListN.{length}
-use Rattle.stream.proofs.Called.{zeros, zeros-size, fronted-room, fronted-part, joined-size, joined-image, joined-contents, contents-back, feed-feeds}
+use Rattle.stream.proofs.Called.{zeros, zeros-size, fronted-room, fronted-part, joined-size, joined-is, contents-back, feed-feeds}
 use Rattle.stream.proofs.Rows.{image-part}
 use Rattle.stream.proofs.state.State.feed.Statement.{statement}
 use Rattle.stream.proofs.state.State.feed.Tie as tie
@@ -36,11 +36,7 @@ feed-requires c κs =
     joined-size zeros zeros-size (l₁ .load .ensures) (image-size s) (l₂ .load2 .ensures) (contents-size s)
 
 slice-aggregate-feed : tie.Need-slice-aggregate-feed
-slice-aggregate-feed c =
-    let l₂ = c .before .before in
-    let l₁ = l₂ .before .before .before .before in
-    let s = l₁ .before .before .before .before .before .before .before in
-    sym (joined-size zeros zeros-size (l₁ .load .ensures) (image-size s) (l₂ .load2 .ensures) (contents-size s))
+slice-aggregate-feed c = sym (feed-requires c (c .before .before .load2 .lifetimes))
 
 fed-size : (f : tie.After-feed) → length (f .feed .last .0) ≡ 20480
 fed-size f = f .feed .kept .0 ∙ feed-requires (f .before) (f .feed .lifetimes)
@@ -74,9 +70,8 @@ returns c =
     let l₁ = l₂ .before .before .before .before in
     let s = l₁ .before .before .before .before .before .before .before in
     feed-feeds (s .args .self) (s .args .bytes .now) _ _ _ (f .feed .ensures)
-    (joined-image zeros zeros-size (l₁ .load .ensures) (image-size s) (l₂ .load2 .ensures) (contents-size s))
-    (joined-contents zeros zeros-size (l₁ .load .ensures) (image-size s) (l₂ .load2 .ensures) (contents-size s))
-    (fed-size f) _ _ (l₃ .load3 .ensures) (l₄ .load4 .ensures)
+    (joined-is zeros zeros-size (l₁ .load .ensures) (image-size s) (l₂ .load2 .ensures) (contents-size s))
+    (image-size s) (fed-size f) _ _ (l₃ .load3 .ensures) (l₄ .load4 .ensures)
 
 pub feed-spec : {M : Type 1} → statement M
 feed-spec =
