@@ -1,7 +1,8 @@
 #!/bin/bash
-# Builds each example against the archive, runs it, and compares what it prints; tests the Rust crate, and
-# uses it as installed in a new project; and looks at what the archive asks for. It is built by
-# './kob staticlib' where it is not there. Progress goes to standard error.
+# Builds each example against the archive, runs it, and compares what it prints; tests the calls that take a
+# trace in pieces (tests/stream.c); tests the Rust crate, and uses it as installed in a new project; and looks at
+# what the archive asks for. It is built by './kob staticlib' where it is not there. Progress goes to standard
+# error.
 cd "$(dirname "$0")/.." || exit 1
 archive=target/staticlib/libkobbeskuim.a
 [ -f "$archive" ] || ./kob staticlib >/dev/null || exit 1
@@ -11,12 +12,14 @@ count=0
 suite=capi
 . tests/prints.sh
 
-arguments=() # of the programs that are run
+# Of the programs that are run; their input comes by a pipe.
+arguments=()
+input=/dev/null
 
 built() { # NAME COMMAND..
     local program=$work/$1
     shift
-    "$@" -o "$program" >&2 && "$program" "${arguments[@]}"
+    "$@" -o "$program" >&2 && "$program" "${arguments[@]}" < <(cat "$input")
 }
 
 # example NAME EXPECTED COMMAND..: the command builds $work/NAME, which is then run
@@ -28,10 +31,18 @@ example() {
 # ---- C and C++
 
 strict='-Wall -Wextra -Wpedantic -Wconversion -Wsign-conversion -Werror'
+shared=(-Ltarget/sharedlib -lkobbeskuim -Wl,-rpath,"$PWD/target/sharedlib")
+
+# thrice NAME EXPECTED: examples/c/NAME.c with the archive, with the shared object, and as C++
+thrice() {
+    local source=examples/c/$1.c
+    example "$1-c" "$2" gcc -std=c99 $strict -Iinclude "$source" "$archive"
+    example "$1-shared" "$2" gcc -std=c99 $strict -Iinclude "$source" "${shared[@]}"
+    example "$1-c++" "$2" g++ -std=c++11 $strict -Iinclude -x c++ "$source" -x none "$archive"
+}
+
 first='number 0, done 1, lane 0 is 127'
-example first-c "$first" gcc -std=c99 $strict -Iinclude examples/c/first.c "$archive"
-example first-shared "$first" gcc -std=c99 $strict -Iinclude examples/c/first.c -Ltarget/sharedlib -lkobbeskuim -Wl,-rpath,"$PWD/target/sharedlib"
-example first-c++ "$first" g++ -std=c++11 $strict -Iinclude -x c++ examples/c/first.c -x none "$archive"
+thrice first "$first"
 if command -v pkg-config >/dev/null; then
     example first-pkg-config "$first" gcc -std=c99 $strict examples/c/first.c \
         $(PKG_CONFIG_PATH=. pkg-config --cflags --libs kobbeskuim)
@@ -42,11 +53,15 @@ fi
 empty='run, no words: 0 done
 run, no file: 2 file not 4 x L bytes
 run, neither: 1 length not a multiple of 128 from 128 to 2,048
-decode, no fields: 32 fields not 8 numbers
-encode, no fields: 32 fields not 8 numbers
+decode, no fields: 32 fields not 8 numbers, or state not 20,544 bytes
+encode, no fields: 32 fields not 8 numbers, or state not 20,544 bytes
 list, no bytes: TOTAL 0
 list, no room: refused
-replay, no trace: 15 contents cut short or not allowed'
+replay, no trace: 15 contents cut short or not allowed
+feed, no state: 32 fields not 8 numbers, or state not 20,544 bytes
+feed, no bytes: 0 done
+end, no state: 32 fields not 8 numbers, or state not 20,544 bytes
+end, after no bytes: 15 contents cut short or not allowed'
 vectors="run: 0 done
 lane 0 is 127
 $empty
@@ -61,11 +76,32 @@ for standard in c++11 c++20; do
 done
 
 arguments=(examples/traces/differ.trace)
-replayed=$(shown docs/c.md "./replay ${arguments[*]}")
-example replay-c "$replayed" gcc -std=c99 $strict -Iinclude examples/c/replay.c "$archive"
-example replay-shared "$replayed" gcc -std=c99 $strict -Iinclude examples/c/replay.c -Ltarget/sharedlib -lkobbeskuim -Wl,-rpath,"$PWD/target/sharedlib"
-example replay-c++ "$replayed" g++ -std=c++11 $strict -Iinclude -x c++ examples/c/replay.c -x none "$archive"
+thrice replay "$(shown docs/c.md "./replay ${arguments[*]}")"
+for trace in examples/traces/*; do
+    arguments=("$trace")
+    example "stream-calls ${trace##*/}" '' gcc -std=c99 $strict -O1 -Iinclude tests/stream.c "$archive"
+done
 arguments=()
+
+input=examples/traces/differ.trace
+thrice stream "$(shown docs/c.md "cat $input | ./stream")"
+
+# The first body of that trace ends at byte 2128. Its verdict is told while the line is still open.
+falls_due() {
+    local told
+    mkfifo "$work/line" "$work/told" || return
+    "$work/stream-c" <"$work/line" >"$work/told" &
+    exec 3>"$work/line" 4<"$work/told"
+    head -c 2128 "$input" >&3
+    IFS= read -r -t 60 told <&4 && printf '%s\n' "$told" || return
+    exec 3>&-
+    cat <&4
+}
+count=$((count + 1))
+cut='case 0: file differs at byte 64
+end: 16 trace above 64 KiB or not as long as its contents say'
+prints stream-line "$cut" falls_due
+input=/dev/null
 
 # ---- Rust
 

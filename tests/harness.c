@@ -1,6 +1,7 @@
 /* The C half of the differential harness (harness.py builds and starts it).
  *
- *   harness fuzz SEED SECONDS   the archive against bench/plain.c, and demand 3 on the archive alone
+ *   harness fuzz SEED SECONDS   the archive against bench/plain.c; demand 3 and the states of streams on the
+ *                               archive alone
  *   harness words               all 2^32 words, decoded by both
  *   harness answer              answers the calls on standard input, for the comparison with the
  *                               independent model
@@ -14,6 +15,7 @@
 #include <string.h>
 #include <sys/mman.h>
 #include <time.h>
+#include <unistd.h>
 
 #include "kobbeskuim.h"
 #include "plain.h"
@@ -295,9 +297,10 @@ static void register_case(void)
 /* ---- traces */
 
 enum { LEAST_BODY = 8 + 8 * 128, SPARE = 8, ROOM = MOST_TRACE + 16384 }; /* room for traces that are too long */
+enum { MOST_CASES = 1024, LONG_ROOM = 2 << 20 };                         /* and for those that come in pieces */
 
 static struct area trace_area;
-static _Alignas(4) uint8_t trace[ROOM];
+static _Alignas(4) uint8_t trace[LONG_ROOM];
 
 static uint32_t number_at(size_t at)
 {
@@ -326,6 +329,15 @@ static size_t record_body(size_t at, size_t l, const uint32_t *run, size_t count
     return at + 8 + 8 * l + 4 * count;
 }
 
+/* Case k of the contents, and its body from a place on; where it ends. */
+static size_t record_case(size_t k, size_t at, size_t l, size_t count)
+{
+    put_number(4 + 12 * k, (uint32_t)l);
+    put_number(8 + 12 * k, (uint32_t)count);
+    put_number(12 + 12 * k, (uint32_t)at);
+    return record_body(at, l, words, count);
+}
+
 /* A trace that agrees; its length. Most have a few cases, some as many as there is room for; some are too
  * long, and some fill 64 KiB to the last byte, or have one number more. */
 static size_t record_trace(void)
@@ -341,10 +353,7 @@ static size_t record_trace(void)
             l = 128, count = 0;
         for (; full && least == 0 && at + LEAST_BODY + 4 * count < full; count++)
             words[count] = good_word(ROWS);
-        put_number(4 + 12 * k, (uint32_t)l);
-        put_number(8 + 12 * k, (uint32_t)count);
-        put_number(12 + 12 * k, (uint32_t)at);
-        at = record_body(at, l, words, count);
+        at = record_case(k, at, l, count);
     }
     return at;
 }
@@ -423,6 +432,176 @@ static void trace_case(void)
         differ_trace("the trace, or bytes outside of it", length, first, 0, 0);
 }
 
+/* ---- traces in pieces */
+
+enum { CALLS_OVER = 3, CALLS_FREE = 4 }; /* behind a refusal or an end; on a state that no calls leave */
+
+static struct area long_area, state_area;
+static struct plain_stream beside;
+
+static size_t lesser(size_t a, size_t b)
+{
+    return a < b ? a : b;
+}
+
+/* As many cases as the contents may name, or some of the greatest length and with as many words as there may
+ * be; or up to two less. The trace's length. */
+static size_t record_long(void)
+{
+    bool many = one_in(2);
+    size_t listed = many ? MOST_CASES - (one_in(2) ? 0 : below(3)) : 1 + below(4), at = 4 + 12 * listed;
+    put_number(0, (uint32_t)listed);
+    for (size_t k = 0; k < listed; k++) {
+        size_t count = many ? below(4) : MOST_WORDS - (one_in(2) ? 0 : below(3));
+        for (size_t n = 0; n < count; n++)
+            words[n] = good_word(ROWS);
+        at = record_case(k, at, many ? 128 : 2048, count);
+    }
+    return at;
+}
+
+/* The bytes of the next piece: none, some, or all that are left. */
+static size_t piece(size_t left)
+{
+    switch (below(8)) {
+    case 0: return 0;
+    case 1: return lesser(left, 1 + below(4));
+    case 2: return lesser(left, below(32));
+    case 3: return left;
+    case 4: return lesser(left, below(LONG_ROOM));
+    default: return lesser(left, below(8192));
+    }
+}
+
+static void differ_stream(const char *what, size_t length, size_t at, uint64_t found, uint64_t wanted)
+{
+    if (differences++ < TOLD)
+        fprintf(stderr, "harness: %s, case %" PRIu64 ": %zu bytes, of which %zu are taken: %" PRIX64
+                ", not %" PRIX64 "\n", what, cases, length, at, found, wanted);
+}
+
+/* Hands in the bytes of a trace from one place to another in random pieces, and holds the answers against
+ * plain C's if asked to. The place behind the last byte taken. */
+static size_t hand_in(uint8_t *state, const uint8_t *bytes, size_t at, size_t to, bool compare)
+{
+    for (int idle = 0; at < to && idle < CALLS_OVER;) {
+        size_t length = piece(to - at);
+        uint64_t found = kob_stream_feed(state, KOB_STREAM_SIZE, bytes + at, length);
+        uint64_t wanted = compare ? plain_stream_feed(&beside, bytes + at, length) : found;
+        size_t taken = found >> 32;
+        cases++;
+        if (found != wanted || taken > length) {
+            differ_stream("stream", to, at, found, wanted);
+            return to;
+        }
+        at += taken;
+        idle = length > 0 && taken == 0 ? idle + 1 : 0;
+    }
+    return at;
+}
+
+/* The end, and bytes and ends behind it: one answer, and a state that stays. */
+static void end_stream(uint8_t *state, const uint8_t *bytes, size_t length, size_t at)
+{
+    static uint8_t left[KOB_STREAM_SIZE];
+    uint32_t found = kob_stream_end(state, KOB_STREAM_SIZE), wanted = plain_stream_end(&beside);
+    memcpy(left, state, sizeof left);
+    cases++;
+    if (found != wanted)
+        differ_stream("the end of a stream", length, at, found, wanted);
+    for (int k = 0; k < CALLS_OVER; k++) {
+        size_t some = piece(length);
+        uint64_t again = kob_stream_feed(state, KOB_STREAM_SIZE, bytes, some);
+        if (again != wanted || (again = kob_stream_end(state, KOB_STREAM_SIZE)) != wanted)
+            differ_stream("behind the end of a stream", length, at, again, wanted);
+        cases += 2;
+    }
+    if (memcmp(left, state, sizeof left))
+        differ_stream("the state behind the end", length, at, 0, 0);
+}
+
+/* Some bytes of a state get others, as often as not those of one of the places that 64 bytes can have beside
+ * 8,192 and 12,288. */
+static void damage_state(uint8_t *state)
+{
+    static const size_t starts[] = {0, 8192, 12288, 20480};
+    size_t start = starts[below(4)];
+    if (one_in(8))
+        for (size_t k = 0; k < KOB_STREAM_SIZE; k++)
+            state[k] = next() >> 56;
+    do {
+        size_t at = one_in(4) ? below(KOB_STREAM_SIZE) : start + below(64);
+        state[at] = one_in(2) ? next() >> 56 : state[at] ^ 1u << below(8);
+    } while (!one_in(6));
+}
+
+/* On a state that no calls leave the calls return, take no more than there is, and write to nothing else. */
+static void free_state_case(const uint8_t *from, const uint8_t *bytes, size_t length)
+{
+    uint8_t *state = lend(state_area, KOB_STREAM_SIZE, 1);
+    memcpy(state, from, KOB_STREAM_SIZE);
+    damage_state(state);
+    for (int k = 0; k < CALLS_FREE; k++) {
+        size_t at = below((uint32_t)length + 1), some = piece(length - at);
+        uint64_t found = kob_stream_feed(state, KOB_STREAM_SIZE, bytes + at, some);
+        if (found >> 32 > some)
+            differ_stream("bytes taken on any state", length, at, found, some);
+        if (one_in(8))
+            kob_stream_end(state, KOB_STREAM_SIZE);
+        cases++;
+    }
+    if (!kept(state_area, state, KOB_STREAM_SIZE))
+        differ_stream("bytes outside of any state", length, 0, 0, 0);
+}
+
+/* A state of another length, which stays as it is. */
+static void wrong_state_case(const uint8_t *bytes, size_t length)
+{
+    size_t size = one_in(2) ? KOB_STREAM_SIZE + below(17) - 8 : below((uint32_t)state_area.size + 1);
+    size += size == KOB_STREAM_SIZE;
+    uint8_t *state = lend(state_area, size, 1);
+    uint64_t found = kob_stream_feed(state, size, bytes, piece(length));
+    uint32_t end = kob_stream_end(state, size);
+    cases += 2;
+    if (found != KOB_BAD_FIELDS || end != KOB_BAD_FIELDS)
+        differ_stream("a state of another length", length, size, found, end);
+    if (!kept(state_area, state_area.start, 0))
+        differ_stream("bytes of a state of another length", length, size, 0, 0);
+}
+
+/* A trace in pieces against plain C; and cut otherwise, which leaves the same state at a place in the middle, at
+ * the last byte and at the end. */
+static void stream_case(struct area a, size_t length)
+{
+    static uint8_t other[KOB_STREAM_SIZE], middle[KOB_STREAM_SIZE];
+    uint8_t *lent = lend(a, length, 1), *state = lend(state_area, KOB_STREAM_SIZE, 1);
+    memcpy(lent, trace, length);
+    memset(state, 0, KOB_STREAM_SIZE);
+    memset(other, 0, sizeof other);
+    memset(&beside, 0, sizeof beside);
+    size_t at = 0, second = 0, places[] = {below((uint32_t)length + 1), length, length};
+    for (int k = 0; k < 3; k++) {
+        at = hand_in(state, lent, at, places[k], true);
+        second = hand_in(other, lent, second, places[k], false);
+        if (k == 0)
+            memcpy(middle, other, sizeof middle);
+        if (k == 2) {
+            end_stream(state, lent, length, at);
+            kob_stream_end(other, sizeof other);
+        }
+        if (at != second || memcmp(state, other, sizeof other))
+            differ_stream("the state after other cuts", length, at, second, at);
+    }
+    if (!kept(state_area, state, KOB_STREAM_SIZE))
+        differ_stream("bytes outside of a state", length, at, 0, 0);
+    free_state_case(middle, lent, length);
+    wrong_state_case(lent, length);
+    bool same = !memcmp(lent, trace, length);
+    same &= kept(a, lent, length);
+    if (!same)
+        differ_stream("a trace in pieces, or bytes outside of it", length, at, 0, 0);
+}
+
 /* ---- demand 3, on the archive alone */
 
 /* The first or a later part of every register, as a file of its own. */
@@ -486,15 +665,23 @@ static void fuzz(double seconds)
     file_area = area(MOST_FILE);
     word_area = area(sizeof words);
     trace_area = area(ROOM);
+    long_area = area(LONG_ROOM);
+    state_area = area(KOB_STREAM_SIZE);
+    alarm((unsigned)seconds + 60); /* a call that does not return ends this program */
     double end = now() + seconds;
-    uint64_t runs = 0, traces = 0, lengths = 0, segments = 0, calls = 0;
-    while (now() < end) {
+    uint64_t runs = 0, traces = 0, streams = 0, lengths = 0, segments = 0, calls = 0;
+    for (uint64_t round = 0; now() < end; round++) {
         uint64_t start = cases;
         for (int k = 0; k < 16; k++)
             run_case();
         runs += cases - start, start = cases;
         trace_case();
         traces += cases - start, start = cases;
+        if (round % 64 == 0)
+            stream_case(long_area, damage(record_long()));
+        else
+            stream_case(trace_area, damage(record_trace()));
+        streams += cases - start, start = cases;
         for (int k = 0; k < 4; k++)
             length_case();
         lengths += cases - start, start = cases;
@@ -507,9 +694,9 @@ static void fuzz(double seconds)
         }
         calls += cases - start;
     }
-    fprintf(stderr, "harness: %" PRIu64 " runs and %" PRIu64 " cases of traces against plain C; %" PRIu64
-            " pairs of lengths; %" PRIu64 " segments alone; %" PRIu64 " other calls\n",
-            runs, traces, lengths, segments, calls);
+    fprintf(stderr, "harness: %" PRIu64 " runs, %" PRIu64 " cases of traces and %" PRIu64 " calls of streams"
+            " against plain C; %" PRIu64 " pairs of lengths; %" PRIu64 " segments alone; %" PRIu64
+            " other calls\n", runs, traces, streams, lengths, segments, calls);
 }
 
 /* ---- answers for the model. Numbers are little-endian, as this machine's must be. */
@@ -560,6 +747,26 @@ static void answer_replay(const uint64_t n[4]) /* bytes, case */
     free(bytes);
 }
 
+static void answer_stream(const uint64_t n[4]) /* bytes, calls: each a piece's size, or all ones for the end */
+{
+    static uint8_t state[KOB_STREAM_SIZE];
+    uint8_t *bytes = room(n[0]);
+    uint32_t *sizes = room(4 * n[1]);
+    take(bytes, n[0]);
+    take(sizes, 4 * n[1]);
+    memset(state, 0, sizeof state);
+    for (size_t k = 0, at = 0; k < n[1]; k++) {
+        bool end = sizes[k] == UINT32_MAX;
+        size_t size = end ? 0 : lesser(sizes[k], n[0] - at);
+        uint64_t found = end ? kob_stream_end(state, sizeof state)
+                             : kob_stream_feed(state, sizeof state, bytes + at, size);
+        at += lesser(found >> 32, size);
+        give(&found, 8);
+    }
+    free(bytes);
+    free(sizes);
+}
+
 static void answer_decode(const uint64_t n[4]) /* the word, the fields' count */
 {
     uint32_t *fields = room(4 * n[1]);
@@ -605,6 +812,7 @@ static void answer(void)
         switch (kind) {
         case 'x': answer_run(n); break;
         case 't': answer_replay(n); break;
+        case 's': answer_stream(n); break;
         case 'd': answer_decode(n); break;
         case 'e': answer_encode(n); break;
         case 'r': answer_register(n); break;

@@ -4,9 +4,9 @@
     tests/harness.py [--seconds S] [--seed N] [--words] [--archive FILE] [--include FOLDER]
 
 For S seconds (default 60), side by side: tests/harness.c holds the archive against bench/plain.c at
-full speed, and demand 3 against the archive itself; this script asks the archive for answers and
-holds them against the independent model. All cases are seeded, valid and damaged. --words also
-decodes every one of the 2^32 words, which takes a minute or so more.
+full speed, and demand 3 and the states of streams against the archive itself; this script asks the
+archive for answers and holds them against the independent model. All cases are seeded, valid and
+damaged. --words also decodes every one of the 2^32 words, which takes a minute or so more.
 
 The archive is target/staticlib/libkobbeskuim.a unless told otherwise. The last line is
 'harness: N cases, M differences'; the exit status is 0 only if M is 0.
@@ -29,15 +29,18 @@ import lanes
 import model
 import replay
 import run_cases
+import stream
 import traces
 from cases import Source
 from execution import MOST_WORDS, MULTIPLES
 from model import ADDS, ELEMENT, INDEXED, Operation
+from replay import MOST_CASES
 
 TOLD = 10  # differences told in full
 BATCH = 100  # cases for one start of the driver
 NUMBERS = (0, 1, 2, 3, 4, 7, 8, 15, 16, 31, 32, 255, 256, 2**31, 2**32 - 1)  # either side of each limit
 PATTERN = 0xA5  # what a lent buffer holds before the call
+END = 2**32 - 1  # among the sizes of a stream's pieces
 
 # Numbers of the C interface that document 01 has none for.
 BAD_PART, NO_OPERATION, NO_ROOM = 32, 33, 2**64 - 1
@@ -65,6 +68,21 @@ def replay_case(trace, n):
     number, kind, place, _ = replay.judge(trace, n)
     asked = call(b"t", len(trace), n, data=trace)
     return asked, struct.pack("<Q", number | kind << 8 | place << 16)
+
+
+def stream_case(trace, sizes, behind):
+    """Pieces of these sizes until all of the trace is taken or the stream is over, then those behind, the last
+    first. What a call does not take is handed in again."""
+    line, at, calls, wanted = stream.Stream(), 0, [], b""
+    while behind:
+        live = line.over is None and at < len(trace)
+        size = next(sizes) if live else behind.pop()
+        piece = trace[at : at + size]
+        taken, number, kind, place = (0, line.end(), 0, 0) if size == END else line.feed(piece)
+        at += taken
+        calls.append(size)
+        wanted += struct.pack("<Q", number | kind << 8 | place << 16 | taken << 32)
+    return call(b"s", len(trace), len(calls), data=trace + packed(*calls)), wanted
 
 
 def decode_case(word, count):
@@ -167,16 +185,18 @@ class Maker(run_cases.Maker):
             length, count = 128, MOST_WORDS - source.below(3)
         return run_case(length, self.file(4 * length), self.flag(), self.words(count))
 
-    def replaying(self):
-        """A trace as the model records it, then damaged: a byte, a number, or its end."""
+    def recorded(self, cases):
+        """The trace of cases of these lengths and words."""
+        made = (traces.Case(length, self.flag(), self.file(4 * length), words) for length, words in cases)
+        return traces.record(list(made))
+
+    def trace(self):
+        """As the model records it, then damaged: a byte, a number, or its end. And its number of cases."""
         source = self.source
-        cases = []
-        for _ in range(1 + source.below(3)):
-            length = self.length()
-            cases.append(traces.Case(length, self.flag(), self.file(4 * length), self.words(source.below(20))))
-        trace = bytearray(traces.record(cases))
-        at = traces.places(trace, source.below(len(cases)))
-        start = source.choose((*range(0, 4 + 12 * len(cases), 4), at.flag_before, at.flag_after))
+        cases = 1 + source.below(3)
+        trace = bytearray(self.recorded([(self.length(), self.words(source.below(20))) for _ in range(cases)]))
+        at = traces.places(trace, source.below(cases))
+        start = source.choose((*range(0, 4 + 12 * cases, 4), at.flag_before, at.flag_after))
         kind = source.below(7)
         if kind == 0:
             trace[source.below(len(trace))] ^= 1 << source.below(8)
@@ -190,8 +210,33 @@ class Maker(run_cases.Maker):
             trace = (trace + b"\1")[: source.choose((start, at.end - 1, len(trace) - 4, len(trace) + 1))]
         elif kind == 5:
             trace[at.flag_after] ^= 1
-        n = source.below(len(cases)) if source.below(6) else source.choose((len(cases), 2**32, 2**64 - 1))
-        return replay_case(bytes(trace), n)
+        return bytes(trace), cases
+
+    def replaying(self):
+        trace, cases = self.trace()
+        n = self.source.below(cases) if self.source.below(6) else self.source.choose((cases, 2**32, 2**64 - 1))
+        return replay_case(trace, n)
+
+    def sizes(self, *most):
+        """Of pieces, without end, each below one of these numbers."""
+        while True:
+            yield self.source.below(self.source.choose(most))
+
+    def behind(self):
+        """The calls when all is taken or refused, the last first: pieces and ends, mostly behind an end."""
+        return [self.source.choose((END, 0, 1, 9)) for _ in range(3)] + [self.source.choose((END, END, END, 0))]
+
+    def streaming(self):
+        """A trace in pieces."""
+        return stream_case(self.trace()[0], self.sizes(1, 2, 4, 16, 600, 4096), self.behind())
+
+    def long(self):
+        """The longest case, and as many cases as the contents may name; whole, and a byte longer or shorter."""
+        longest = self.recorded([(128, self.words(3)), (2048, [self.good() for _ in range(MOST_WORDS)])])
+        many = self.recorded([(128, self.words(1)) for _ in range(MOST_CASES)])
+        for trace in (longest, many):
+            for changed in (trace, self.source.choose((trace[:-1], trace + b"\0"))):
+                yield "long", *stream_case(changed, self.sizes(1, 16, 2000, 2000, 65536, 65536), self.behind())
 
     def coinciding_word(self):
         """Any operation, its registers one in some way."""
@@ -262,7 +307,7 @@ class Maker(run_cases.Maker):
     def batch(self):
         """Every kind of case; those of the run more often, aimed ones most."""
         kinds = [self.program] * 5 + [self.coinciding_word] * 3 + [self.aimed_word] * 8 + [self.damaged]
-        kinds += [self.replaying] * 3 + [self.decoding, self.encoding, self.asking, self.text]
+        kinds += [self.replaying, self.streaming] * 2 + [self.decoding, self.encoding, self.asking, self.text]
         for _ in range(BATCH):
             kind = self.source.choose(kinds)
             yield kind.__name__, *kind()
@@ -275,7 +320,7 @@ def against_model(program, seed, end):
     """The cases and differences until the time is over."""
     maker, cases, differences = Maker(Source(seed)), 0, 0
     while cases == 0 or time.monotonic() < end:
-        batch = list(maker.batch())
+        batch = list(maker.batch() if cases else maker.long())
         asked = b"".join(asked for _, asked, _ in batch)
         done = subprocess.run([program, "answer"], input=asked, stdout=subprocess.PIPE)
         found = done.stdout
@@ -288,8 +333,11 @@ def against_model(program, seed, end):
             if got != wanted:
                 differences += 1
                 if differences <= TOLD:
+                    differing = places(got, wanted)
+                    at = differing[0] // 8 * 8  # of a stream, that of the first call that differs
                     print(f"harness: {name}, case {cases}: {told(asked)}")
-                    print(f"    {got[:8].hex()}, not {wanted[:8].hex()}; bytes {places(got, wanted)} differ")
+                    print(f"    from byte {at} on {got[at : at + 8].hex()}, not {wanted[at : at + 8].hex()}; ", end="")
+                    print(f"bytes {differing[:8]} differ")
     return cases, differences
 
 
@@ -303,7 +351,7 @@ def told(asked):
 
 
 def places(got, wanted):
-    return [at for at in range(8, len(wanted)) if got[at : at + 1] != wanted[at : at + 1]][:8]
+    return [at for at in range(len(wanted)) if got[at : at + 1] != wanted[at : at + 1]]
 
 
 def ended(process):

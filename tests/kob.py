@@ -9,7 +9,9 @@ out what the gate has built (target/bin, target/staticlib); and, with the kit's 
 
 import itertools
 import os
+import pty
 import re
+import select
 import shutil
 import signal
 import stat
@@ -18,11 +20,13 @@ import sys
 import tarfile
 import tempfile
 import time
+import tty
 from pathlib import Path
 
 ROOT = Path(__file__).resolve().parent.parent
 sys.dont_write_bytecode = True  # the repository stays as it was
 sys.path.insert(0, str(ROOT / "reference"))
+import streamed
 import traces
 import verdicts
 
@@ -141,7 +145,7 @@ def status_of_a_listing(tree):
 def status_of_a_closed_pipe(tree):
     tree.lists()
     has_traces(tree)
-    for words in (("list",), ("replay", "agree.trace")):
+    for words in (("list",), ("replay", "agree.trace"), ("replay", "-")):
         reading, writing = os.pipe()
         os.close(reading)
         process = tree.start(*words, stdin=subprocess.PIPE, stdout=writing)
@@ -184,25 +188,34 @@ def has_traces(tree):
     return tree.run("replay", "agree.trace")[2]
 
 
-def judgement(folder, *names):
-    """What kob is to say of these files: their lines by the model, the rest by docs/replay.md."""
+def told_of(name, trace):
+    """The lines, the counts and the progress, by the model of a trace that is checked whole or of one that comes in pieces."""
+    if name == b"-" or len(trace) > 65536:
+        return streamed.told(name, trace)
+    return verdicts.lines(name, trace), verdicts.counts(trace), b""
+
+
+def judgement(folder, *names, data=b""):
+    """What kob is to say of these files, and of the data for -: their lines by the model, the rest by docs/replay.md."""
     wrote = said = b""
-    sums = [0, 0, 0, 0]
+    sums, unread = [0, 0, 0, 0], 0
     for name in map(os.fsencode, names):
         try:
-            trace = Path(os.fsdecode(os.path.join(bytes(folder), name))).read_bytes()
+            trace = data if name == b"-" else Path(os.fsdecode(os.path.join(bytes(folder), name))).read_bytes()
         except OSError:
             said += b"kob: cannot read %s\n" % name
+            unread += 1
         else:
-            wrote += verdicts.lines(name, trace)
-            sums = [sum(pair) for pair in zip(sums, (1, *verdicts.counts(trace)))]
+            lines, counts, progress = told_of(name, trace)
+            wrote, said = wrote + lines, said + progress
+            sums = [sum(pair) for pair in zip(sums, (1, *counts))]
     wrote += b"total\t%d traces\t%d cases\t%d agree\t%d refused\n" % tuple(sums)
     judged, cases, agree, refused = sums
     if refused:
         said += b"kob: refused: %d of %d traces\n" % (refused, judged)
     if agree < cases:
         said += b"kob: not agreeing: %d of %d cases\n" % (cases - agree, cases)
-    return 1 if said else 0, wrote, said
+    return 1 if unread or refused or agree < cases else 0, wrote, said
 
 
 def status_of_a_replay(tree):
@@ -231,6 +244,88 @@ def status_of_a_replay(tree):
         expect(got, 1, None, b"kob: cannot read nothing.trace\nkob: the output could not be written\n")
 
 
+def long_trace():
+    """Of 1,069,060 bytes, so that there is progress."""
+    return traces.record([traces.Case(128, 0, bytes(512), [])] * 1024)
+
+
+def replay_of_standard_input(tree):
+    has_traces(tree)
+    differ, long = traces.differ(), long_trace()
+    (tree.elsewhere / "long.trace").write_bytes(long)
+    for data in (traces.agree(), differ, differ[:63], differ[:3000], differ + b"\0", b"", long, long[:-1]):
+        wanted = judgement(tree.elsewhere, "-", data=data)
+        for words in (("replay",), ("replay", "-")):
+            expect(tree.run(*words, data=data), *wanted)
+    for names in (("agree.trace", "-"), ("-", "nothing.trace", "long.trace"), ("cut.trace", "-", "long.trace", "long.trace")):
+        expect(tree.run("replay", *names, data=differ), *judgement(tree.elsewhere, *names, data=differ))
+    (tree.elsewhere / "-").write_bytes(traces.agree())
+    expect(tree.run("replay", "./-", data=differ), *judgement(tree.elsewhere, "./-"))
+
+
+def replay_of_no_input(tree):
+    """In each shell: input that cannot be read, that is not open, and no standard error for the progress."""
+    has_traces(tree)
+    _, wrote, _ = judgement(tree.elsewhere, "agree.trace")
+    unread = 1, wrote, b"kob: cannot read -\n"
+    long = long_trace()
+    status, lines, _ = judgement(tree.elsewhere, "-", data=long)
+    folder = os.open(tree.elsewhere, os.O_RDONLY)
+    for shell in ("sh", "bash"):
+        words = tree.kob, "replay", "-", "agree.trace"
+        expect(tree.run(*words, kob=shell, stdin=folder), *unread)
+        expect(tree.run(*words, kob=shell, stdin=None, preexec_fn=lambda: os.close(0)), *unread)
+        expect(tree.run(tree.kob, "replay", kob=shell, data=long, preexec_fn=lambda: os.close(2)), status, lines, b"")
+    os.close(folder)
+
+
+def next_line(process):
+    """While nothing more is sent than brings it."""
+    check(select.select([process.stdout], [], [], PATIENCE)[0], "no line came")
+    return process.stdout.readline()
+
+
+def ends_so(process, *wanted):
+    """Its status, and what it wrote to the two outputs since."""
+    wrote, said = process.communicate(timeout=PATIENCE)
+    expect((process.returncode, wrote, said), *wanted)
+
+
+def replay_while_it_comes(tree):
+    """Each line is there before the next body is sent."""
+    has_traces(tree)
+    trace = traces.differ()
+    status, wrote, said = judgement(tree.elsewhere, "-", data=trace)
+    *lines, total = wrote.splitlines(True)
+    process = tree.start("replay", stdin=subprocess.PIPE)
+    at = 0
+    for n, line in enumerate(lines):
+        end = traces.places(trace, n).end
+        process.stdin.write(trace[at:end])
+        process.stdin.flush()
+        at, got = end, next_line(process)
+        check(got == line, "it printed", got, "and not", line)
+    ends_so(process, status, total, said)
+
+
+def replay_of_a_gone_device(tree):
+    """A terminal that is gone after some bytes. What was printed is counted."""
+    has_traces(tree)
+    try:
+        reading, writing = pty.openpty()
+    except OSError:
+        return print("kob: not run: a device that is gone, since there is no pseudo-terminal")
+    tty.setraw(writing)
+    process = tree.start("replay", stdin=reading)
+    os.close(reading)
+    os.write(writing, traces.differ()[:3000])
+    line = next_line(process)
+    os.close(writing)
+    check(line == verdicts.lines("-", traces.differ()).splitlines(True)[0], "it printed", line)
+    total = b"total\t0 traces\t1 cases\t0 agree\t0 refused\n"
+    ends_so(process, 1, total, b"kob: cannot read -\nkob: not agreeing: 1 of 1 cases\n")
+
+
 def names_of_traces(tree):
     has_traces(tree)
     for name in NAMES:
@@ -254,8 +349,9 @@ def names_of_traces(tree):
 
 def status_of_usage(tree):
     one_too_many = [(word, "a", "b") for word in ("list", "run", "install", "staticlib", "dist", "test", "version", "help")]
-    wrong = ((), ("",), ("lists",), ("list", "words.bin"), ("replay",), ("install",), ("install", ""), ("install", "-x"))
-    for words in (*wrong, *one_too_many):
+    wrong = ((), ("",), ("lists",), ("list", "words.bin"), ("install",), ("install", ""), ("install", "-x"))
+    dashes = (("replay", "-", "-"), ("replay", "-", "agree.trace", "-"))
+    for words in (*wrong, *dashes, *one_too_many):
         status, wrote, said = tree.run(*words)
         check((status, wrote) == (2, b"") and b"kob help" in said, words, status, wrote, said)
     for word in ("help", "--help", "-h"):
@@ -326,7 +422,8 @@ def builds_once(tree):
     tree.lists()
     check(not tree.calls(), "the second listing built again")
     archive = tree.root / "target/staticlib/libkobbeskuim.a"
-    library = ["check exec listing replay", "staticlib capi_run", "staticlib capi", "staticlib capi_replay"]
+    parts = "capi_run", "capi", "capi_replay", "capi_stream"
+    library = ["check exec listing replay stream", *(f"staticlib {part}" for part in parts)]
     for built in (library, []):
         status, wrote, said = tree.run("staticlib")
         check((status, wrote) == (0, b"%s\n" % bytes(archive)), status, wrote, said)
@@ -575,9 +672,10 @@ def makes_a_tar(tree):
 
 SCENARIOS = (
     status_of_a_listing, status_of_a_closed_pipe, status_of_what_cannot_start, status_of_a_run, status_of_a_replay,
-    names_of_traces, status_of_usage, statuses_by_make, starts_in_5_ms, replays_in_5_ms, builds_once, fails_to_build,
-    two_at_once, interrupted, interrupted_while_another_waits, read_only_tree, pages, links, installs,
-    installs_under_one_lock, makes_a_tar,
+    replay_of_standard_input, replay_of_no_input, replay_while_it_comes, replay_of_a_gone_device, names_of_traces,
+    status_of_usage, statuses_by_make, starts_in_5_ms, replays_in_5_ms, builds_once, fails_to_build, two_at_once,
+    interrupted, interrupted_while_another_waits, read_only_tree, pages, links, installs, installs_under_one_lock,
+    makes_a_tar,
 )  # fmt: skip
 
 

@@ -41,7 +41,7 @@ import report
 import run_cases
 import traces
 from execution import LENGTHS, MULTIPLES
-from kobbeskuim import Family, Form, Kind, Number, Operation, Refused, Size, Stopped, Verdict
+from kobbeskuim import Family, Form, Kind, Number, Operation, Refused, Size, Stopped, Stream, StreamRefused, Verdict
 
 SONAME = f"libkobbeskuim.so.{kobbeskuim.VERSION.split('.')[0]}"
 CADD, OUTSIDE, RESERVED = 0x4500D800, 0x00000000, 0x2F00F000
@@ -195,6 +195,14 @@ def judged(trace, n):
     return number, None if number else (kind, place)
 
 
+def seen(maker, length):
+    """A case of some words, which now and then stop."""
+    words = [maker.good() for _ in range(maker.source.below(6))]
+    if maker.source.below(4) == 0:
+        words.append(maker.source.choose((maker.outside, maker.reserved))())
+    return traces.Case(length, maker.flag(), maker.file(4 * length), words)
+
+
 class Traces(unittest.TestCase):
     def agree(self, trace, n):
         found = answered(kobbeskuim.replay, trace, n)
@@ -221,18 +229,11 @@ class Traces(unittest.TestCase):
         for name, _, kinds in traces.EXAMPLES:
             self.assertEqual(self.agree_all((traces.FOLDER / name).read_bytes()), kinds)
 
-    def seen(self, maker, length):
-        """A case of some words, which now and then stop."""
-        words = [maker.good() for _ in range(maker.source.below(6))]
-        if maker.source.below(4) == 0:
-            words.append(maker.source.choose((maker.outside, maker.reserved))())
-        return traces.Case(length, maker.flag(), maker.file(4 * length), words)
-
     def test_traces_with_damaged_bodies(self):
         maker, kinds = harness.Maker(cases.Source(10)), set()
         below = maker.source.below
         for _, length in product(range(20), LENGTHS):
-            trace = bytearray(traces.record([self.seen(maker, length), self.seen(maker, 128)]))
+            trace = bytearray(traces.record([seen(maker, length), seen(maker, 128)]))
             at = traces.places(trace, 0)
             for damages in range(8):  # each alone, and together
                 damaged = trace[:]
@@ -302,6 +303,180 @@ class Traces(unittest.TestCase):
     def test_a_verdict_has_its_types(self):
         verdict = kobbeskuim.replay(traces.differ(), 0)
         self.assertEqual([type(part) for part in (verdict, *verdict)], [Verdict, Kind, int])
+
+
+def first_wrong(numbers):
+    """Which of these numbers is the first of the contents that is not allowed, else None."""
+    count, end = numbers[0], 4 + 12 * numbers[0]
+    if not 1 <= count <= replay.MOST_CASES:
+        return 0
+    for i, number in enumerate(numbers[1 : 1 + 3 * count], 1):
+        if not (number == end, number in LENGTHS, number <= 4096)[i % 3]:  # start, length, words
+            return i
+        if i % 3 == 0:
+            end += 8 + 8 * numbers[i - 2] + 4 * numbers[i - 1]
+    return None
+
+
+def due(trace):
+    """By the model of replay: each verdict, and at most one refusal, with the place behind the byte that brings it; and
+    the number of the end."""
+    whole = struct.unpack(f"<{len(trace) // 4}I", trace[: len(trace) & ~3])
+    wrong = first_wrong(whole) if whole else None
+    if wrong is not None:
+        return [(4 * wrong + 4, Number.BAD_CONTENTS)], Number.BAD_CONTENTS
+    entries, end = replay.contents(trace)
+    told = []
+    for entry, stop in zip(entries, (*(entry.start for entry in entries[1:]), end)):
+        if stop <= len(trace):
+            told.append((stop, replay.verdict(entry.length, replay.body_of(trace, entry))[:2]))
+    if entries and len(trace) > end:
+        told.append((end + 1, Number.BAD_TOTAL))
+    if not entries:
+        return told, Number.BAD_CONTENTS
+    return told, 0 if len(trace) == end else Number.BAD_TOTAL
+
+
+def fed(stream, pieces):
+    """What the stream tells, as `due` has it, up to a refusal."""
+    told, place = [], 0
+    for piece in pieces:
+        verdict = True
+        while piece or verdict:  # an empty piece too, and what is left behind a verdict, also where that is nothing
+            try:
+                taken, verdict = stream.feed(piece)
+            except StreamRefused as refused:
+                return [*told, (place + refused.taken, refused.number)]
+            place, piece = place + taken, piece[taken:]
+            if verdict:
+                told.append((place, verdict))
+            elif piece:
+                raise AssertionError(f"{len(piece)} bytes are left, and nothing was told")
+    return told
+
+
+def in_pieces(trace, size):
+    return [trace[at : at + size] for at in range(0, len(trace), size)]
+
+
+class Streams(unittest.TestCase):
+    def stays(self, stream, number):
+        """Every later call takes nothing and gives the same answer."""
+        for piece in (b"", b"\1", bytes(100_000)):
+            if number:
+                with self.assertRaises(StreamRefused) as caught:
+                    stream.feed(piece)
+                self.assertEqual((caught.exception.number, caught.exception.taken), (number, 0))
+            else:
+                self.assertEqual(stream.feed(piece), (0, None))
+            self.assertEqual(answered(list, stream.verdicts(piece)), (number, None if number else []))
+            self.assertEqual(answered(stream.end), (number, None))
+
+    def agree(self, trace, *cuts):
+        """However it is cut. What is told, and the end."""
+        wanted, end = due(trace)
+        for pieces in (*cuts, [trace]):
+            stream = Stream()
+            self.assertEqual(fed(stream, pieces), wanted, ([len(piece) for piece in pieces[:40]], trace[:40].hex()))
+            self.assertEqual(answered(stream.end), (end, None))
+            self.stays(stream, end)
+        return [what for _, what in wanted], end
+
+    def test_the_examples_in_pieces_of_each_size(self):
+        for name, _, kinds in traces.EXAMPLES:
+            trace = (traces.FOLDER / name).read_bytes()
+            verdicts, end = self.agree(trace, *(in_pieces(trace, size) for size in (*range(1, 20), 64, 1000, 4096)))
+            self.assertEqual(([kind for kind, _ in verdicts], end), (kinds, 0))
+            self.assertEqual(verdicts, kobbeskuim.replay_all(trace))
+            self.assertEqual(list(Stream().verdicts(trace)), verdicts)
+
+    def cut(self, source, trace):
+        """Somewhere, and at times twice at the same place."""
+        places = sorted(source.below(len(trace) + 1) for _ in range(source.below(40)))
+        return [trace[start:end] for start, end in zip((0, *places), (*places, len(trace)))]
+
+    def test_cuts_and_sizes_at_random(self):
+        maker, ends = harness.Maker(cases.Source(11)), set()
+        source = maker.source
+        for _, length in product(range(20), LENGTHS):
+            trace = bytearray(traces.record([seen(maker, length), seen(maker, 128), seen(maker, 128)]))
+            for _ in range(source.below(4)):
+                trace[source.below(len(trace))] ^= 1 << source.below(8)
+            size = source.choose((len(trace), len(trace) + 1, len(trace) + 70000, source.below(len(trace))))
+            trace = bytes(trace.ljust(size, b"\0")[:size])
+            ends.add(self.agree(trace, *(self.cut(source, trace) for _ in range(5)))[1])
+        self.assertEqual(ends, {0, Number.BAD_CONTENTS, Number.BAD_TOTAL})
+
+    def test_numbers_of_the_contents(self):
+        two = traces.record([traces.seen(128, 0, 1, CADD), traces.seen(256, 1, 2)])
+        edges = {0, 1, 127, 128, 192, 256, 384, 1024, 1025, 2048, 2049, 2176, 4096, 4097, 2**31, 2**32 - 1}
+        for at in range(0, 28, 4):
+            (number,) = struct.unpack_from("<I", two, at)
+            for other in (edges | {number - 1, number + 1, number + 4, number + 2**16, number + 2**24}) - {-1}:
+                trace = replay.changed(two, at, other)
+                self.agree(trace, in_pieces(trace[:32], 1) + [trace[32:]])
+
+    def test_every_size_near_the_right_one(self):
+        two = traces.record([traces.seen(128, 0, 1, CADD), traces.seen(128, 1, 2)]) + b"\0\0"
+        for size in (*range(32), *range(1060, 1068), *range(len(two) - 4, len(two) + 1)):
+            self.agree(two[:size], in_pieces(two[:size], 5))
+
+    def test_the_most_bytes_of_one_call(self):
+        entries, end = [(2048, 4096)] + [(128, 0)] * 1023, 12292
+        contents = replay.numbers(1024)
+        for length, words in entries:
+            contents += replay.numbers(length, words, end)
+            end += 8 + 8 * length + 4 * words
+        self.assertEqual(Stream().feed(contents + bytes(50_000)), (45068, Verdict(Kind.OUTSIDE, 0)))
+
+    def test_no_upper_size(self):
+        trace = traces.record([traces.seen(128, k % 2, k) for k in range(1024)])
+        self.assertEqual(self.agree(trace, in_pieces(trace, 4001)), ([(Kind.AGREES, 0)] * 1024, 0))
+        self.assertEqual(list(Stream().verdicts(trace)), [(Kind.AGREES, 0)] * 1024)
+
+    def test_verdicts_stand_where_the_line_breaks(self):
+        trace = traces.agree()
+        stream = Stream()
+        self.assertEqual([verdict.kind for verdict in stream.verdicts(trace[:10_000])], [Kind.AGREES] * 4)
+        self.assertEqual(answered(stream.end), (Number.BAD_TOTAL, None))
+        given = Stream().verdicts(trace + b"\0")
+        self.assertEqual([next(given).kind for _ in range(5)], [Kind.AGREES] * 5)
+        with self.assertRaises(StreamRefused) as caught:
+            next(given)
+        for refused in (caught.exception, pickle.loads(pickle.dumps(caught.exception))):
+            self.assertEqual((refused.number, refused.taken), (Number.BAD_TOTAL, 1))
+
+    def test_verdicts_hand_in_no_more_than_is_asked_for(self):
+        stream, trace = Stream(), traces.differ()
+        first = next(stream.verdicts(trace))
+        self.assertEqual([first, *stream.verdicts(trace[traces.places(trace, 0).end :])], kobbeskuim.replay_all(trace))
+        stream.end()
+
+    def test_each_stream_has_its_own_state(self):
+        streams = [(Stream(), trace, []) for trace in (traces.agree(), traces.differ())]
+        for at in range(0, 16552, 331):
+            for stream, trace, told in streams:
+                told.extend(stream.verdicts(trace[at : at + 331]))
+        for stream, trace, told in streams:
+            self.assertEqual(told, kobbeskuim.replay_all(trace))
+            stream.end()
+
+    def test_pieces_of_every_kind(self):
+        trace = traces.differ()
+        wanted = kobbeskuim.replay_all(trace)
+        lent = bytearray(b"\0" + trace + b"\0")
+        for given in (bytearray(trace), memoryview(trace), array("I", trace), memoryview(lent)[1:-1]):
+            self.assertEqual(list(Stream().verdicts(given)), wanted)
+            self.assertEqual(Stream().feed(given), (traces.places(trace, 0).end, wanted[0]))
+            self.assertEqual(bytes(given), trace)  # it is not written to
+        for wrong in ("text", 4, None, [1, 2]):
+            self.assertRaises(TypeError, Stream().feed, wrong)
+            self.assertRaises(TypeError, list, Stream().verdicts(wrong))
+
+    def test_what_is_told_has_its_types(self):
+        told = Stream().feed(traces.differ())
+        found = [type(part) for part in (told, *told, *told.verdict)]
+        self.assertEqual(found, [kobbeskuim.Fed, int, Verdict, Kind, int])
 
 
 class Arguments(unittest.TestCase):

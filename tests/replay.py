@@ -1,15 +1,19 @@
 #!/usr/bin/env python3
 """Scenario tests of the program replay_files, held to the independent model: every kind of line, each refusal at its
-edges, the name and the counts, and input and output that fail.
+edges, the name and the counts, traces that come in pieces, and input and output that fail.
 
     python3 tests/replay.py PROGRAM
 """
 
 import os
+import pty
 import re
+import select
 import subprocess
 import sys
 import tempfile
+import tty
+from contextlib import contextmanager
 from itertools import chain
 from pathlib import Path
 
@@ -17,6 +21,7 @@ ROOT = Path(__file__).resolve().parent.parent
 sys.dont_write_bytecode = True  # the repository stays as it was
 sys.path.insert(0, str(ROOT / "reference"))
 import replay
+import streamed
 import traces
 import verdicts
 from execution import LENGTHS
@@ -25,102 +30,202 @@ from scenario import Fault, run_all
 from traces import CADD, OUTSIDE, RESERVED, SQRDMLAH, Case, places, record, seen
 
 PATIENCE = 60  # seconds in which a run must end by itself
+QUIET = 0.1  # seconds without a line that show that none is due
 ALL_ONES = 2**32 - 1
 NAME = b"a.trace"
+DASH = b"-"  # the name of a trace that comes in pieces
+UNREAD = b"kob replay: the input could not be read\n"
 
 
 # ---- running the program
 
-# It is handed the name on descriptor 3, and says its counts on 4.
-HANDED = 'exec "$0" 3<"$1" 4>"$2"'
+# It is handed the name on descriptor 3, and says its counts on 4 and its progress on 6.
+HANDED = 'exec "$0" 3<"$1" 4>"$2" 6>"$3"'
+
+
+@contextmanager
+def handed(line):
+    """The command that starts it, and what reads its counts and its progress."""
+    with tempfile.TemporaryDirectory() as folder:
+        name, *files = (Path(folder, part) for part in ("name", "counts", "progress"))
+        name.write_bytes(line)
+        yield ["sh", "-c", HANDED, PROGRAM, name, *files], lambda: tuple(file.read_bytes() for file in files)
 
 
 def run(data=None, line=NAME + b"\n", stdin=None, stdout=subprocess.PIPE, **more):
-    """What it wrote to the pipes of its two outputs, and its counts."""
+    """What it wrote to the pipes of its two outputs, its counts and its progress."""
     source = {"stdin": stdin} if data is None else {"input": data}
-    with tempfile.TemporaryDirectory() as folder:
-        name, counts = Path(folder, "name"), Path(folder, "counts")
-        name.write_bytes(line)
-        command = ["sh", "-c", HANDED, PROGRAM, name, counts]
+    with handed(line) as (command, said):
         try:
             done = subprocess.run(command, **source, stdout=stdout, stderr=subprocess.PIPE, timeout=PATIENCE, **more)
         except subprocess.TimeoutExpired:
             raise Fault(f"it did not end in {PATIENCE} s")
         if done.returncode != 0:
             raise Fault(f"it ended with status {done.returncode}")
-        return done.stdout, done.stderr, counts.read_bytes()
+        return (done.stdout, done.stderr, *said())
 
 
 def expect(got, *wanted):
     if got != wanted:
-        raise Fault(f"it gave {[part[:300] for part in got]}, not {[part[:300] for part in wanted]}")
+        raise Fault(f"it gave {[str(part)[:300] for part in got]}, not {[str(part)[:300] for part in wanted]}")
+
+
+def modelled(trace, name):
+    """What run gives, by the model of a trace that is checked whole or of one that comes in pieces."""
+    progress = b""
+    if name != DASH and len(trace) <= MOST_BYTES:
+        lines, counts = verdicts.lines(name, trace), verdicts.counts(trace)
+    else:
+        lines, counts, progress = streamed.told(name, trace)
+    return lines, b"", b"%d %d %d\n" % counts, progress
 
 
 # ---- the kinds of scenario
 
 
 def as_modelled(trace, line=NAME + b"\n", name=NAME):
-    expect(run(trace, line), verdicts.lines(name, trace), b"", b"%d %d %d\n" % verdicts.counts(trace))
+    expect(run(trace, line), *modelled(trace, name))
+
+
+def by_dash(trace):
+    as_modelled(trace, DASH + b"\n", DASH)
 
 
 def is_kind(trace, *kinds):
-    """A trace that the model takes, and whose cases have these verdicts."""
-    judged = [replay.judge(trace, n)[:2] for n in range(len(kinds))]
-    if judged != [(0, kind) for kind in kinds]:
+    """A trace that is as long as its contents say, and whose cases have these verdicts."""
+    entries, end = replay.contents(trace)
+    judged = [replay.verdict(entry.length, replay.body_of(trace, entry))[0] for entry in entries]
+    if len(trace) != end or judged != list(kinds):
         raise Fault(f"the scenario itself is wrong: the model gives {judged}")
     as_modelled(trace)
 
 
 def is_refused(trace, number, what):
     """The words are here too, so that the model's cannot change with the program's."""
-    expect(run(trace), b"%s\trefused\t%d\t%s\n" % (NAME, number, what.encode()), b"", b"0 0 1\n")
+    expect(run(trace), b"%s\trefused\t%d\t%s\n" % (NAME, number, what.encode()), b"", b"0 0 1\n", b"")
     as_modelled(trace)
 
 
+def is_broken(trace, number, what, name=DASH):
+    """A trace that comes in pieces, and whose last line is this."""
+    got = run(trace, name + b"\n")
+    last = b"%s\trefused\t%d\t%s\n" % (name, number, what.encode())
+    if not got[0].endswith(last):
+        raise Fault(f"it gave {got[0][-300:]} last, not {last}")
+    expect(got, *modelled(trace, name))
+
+
 def alone(trace):
-    """With descriptors 3 and 4 closed the name is empty, and the counts go nowhere."""
+    """With descriptors 3, 4 and 6 closed the name is empty, and the counts and the progress go nowhere."""
     done = subprocess.run([PROGRAM], input=trace, stdout=subprocess.PIPE, stderr=subprocess.PIPE, timeout=PATIENCE)
-    expect((done.returncode, done.stdout, done.stderr), 0, verdicts.lines("", trace), b"")
+    expect((done.returncode, done.stdout, done.stderr), 0, *modelled(trace, b"")[:2])
 
 
-def in_pieces(trace, size):
+def in_pieces(trace, size, name):
     """Through a pipe, a write for each piece."""
     reading, writing = os.pipe()
     child = os.fork()
     if child == 0:
-        os.close(reading)
-        for at in range(0, len(trace), size):
-            os.write(writing, trace[at : at + size])
-        os._exit(0)
+        try:
+            os.close(reading)
+            for at in range(0, len(trace), size):
+                os.write(writing, trace[at : at + size])
+        finally:
+            os._exit(0)
     os.close(writing)
     try:
-        expect(run(stdin=reading), verdicts.lines(NAME, trace), b"", b"%d %d %d\n" % verdicts.counts(trace))
+        expect(run(stdin=reading, line=name + b"\n"), *modelled(trace, name))
     finally:
         os.close(reading)
         os.waitpid(child, 0)
 
 
-def expect_unread(**way):
-    expect(run(**way), b"", b"kob replay: the input could not be read\n", b"")
+@contextmanager
+def started(name, stdin):
+    """The program, whose input is still open, and what reads its counts and its progress."""
+    with handed(name + b"\n") as (command, said):
+        process = subprocess.Popen(command, stdin=stdin, stdout=subprocess.PIPE, stderr=subprocess.PIPE, bufsize=0)
+        with process:
+            try:
+                yield process, said
+            finally:
+                process.kill()
 
 
-def from_folder():
+def printed(process, wanted):
+    """Waits for these bytes; where none are wanted, for a while that none come."""
+    got = b""
+    while select.select([process.stdout], [], [], QUIET if got == wanted else PATIENCE)[0]:
+        some = os.read(process.stdout.fileno(), 65536)
+        got += some
+        if not some or len(got) >= len(wanted) > 0:
+            break
+    if got != wanted:
+        raise Fault(f"it gave {got[:300]}, not {wanted[:300]}")
+
+
+def ended(process, said, faults, *wanted):
+    """It ends by itself, and has printed nothing more."""
+    try:
+        process.wait(PATIENCE)
+    except subprocess.TimeoutExpired:
+        raise Fault(f"it did not end in {PATIENCE} s")
+    expect((process.stdout.read(), process.stderr.read(), *said()), b"", faults, *wanted)
+
+
+def when_due(trace, cuts, over, name=DASH):
+    """At each cut so many lines are printed, while the input stays open. After the last cut the program ends by itself
+    if the trace is over, else where the input ends."""
+    lines, _, *counts = modelled(trace, name)
+    with started(name, subprocess.PIPE) as (process, said):
+        at, shown = 0, 0
+        for cut, due in cuts:
+            process.stdin.write(trace[at:cut])
+            at, upto = cut, len(b"".join(lines.splitlines(True)[:due]))
+            printed(process, lines[shown:upto])
+            shown = upto
+        if not over:
+            process.stdin.close()
+        ended(process, said, b"", *counts)
+
+
+def expect_unread(name, **way):
+    expect(run(line=name + b"\n", **way), b"", UNREAD, b"0 0 0\n", b"")
+
+
+def from_folder(name):
     with tempfile.TemporaryDirectory() as folder:
         stdin = os.open(folder, os.O_RDONLY)
         try:
-            expect_unread(stdin=stdin)
+            expect_unread(name, stdin=stdin)
         finally:
             os.close(stdin)
 
 
-def from_nothing():
-    expect_unread(stdin=subprocess.DEVNULL, preexec_fn=lambda: os.close(0))
+def from_nothing(name):
+    expect_unread(name, stdin=subprocess.DEVNULL, preexec_fn=lambda: os.close(0))
 
 
-def to_full_device(trace):
+def from_gone_device(trace, cut):
+    """A terminal that is gone after some bytes: a read fails, and what was printed stands."""
+    try:
+        reading, writing = pty.openpty()
+    except OSError:
+        return print("replay: not run: a device that is gone, since there is no pseudo-terminal")
+    tty.setraw(writing)
+    lines, counts, _ = streamed.told(DASH, trace[:cut])
+    with started(DASH, reading) as (process, said):
+        os.close(reading)
+        os.write(writing, trace[:cut])
+        printed(process, b"".join(lines.splitlines(True)[:-1]))
+        os.close(writing)
+        ended(process, said, UNREAD, b"%d %d 0\n" % counts[:2], b"")
+
+
+def to_full_device(trace, name):
     with open("/dev/full", "wb") as full:
-        _, said, counts = run(trace, stdout=full)
-    expect((said, counts), b"kob replay: the output could not be written\n", b"")
+        got = run(trace, name + b"\n", stdout=full)
+    expect(got, None, b"kob replay: the output could not be written\n", b"", b"")
 
 
 # ---- the cases
@@ -221,32 +326,116 @@ def refused_total():
     yield "65536 bytes", as_modelled, FULL
     yield "65535 bytes", is_refused, FULL[:-1], 16, "the contents say 65536 bytes, the trace has 65535"
     yield "65536 of 65540", is_refused, changed(FULL, 20, 4086), 16, "the contents say 65540 bytes, the trace has 65536"
-    more = "the trace has more than 65536 bytes"
-    yield "65537 bytes", is_refused, FULL + b"\0", 16, more
-    yield "65540 bytes, as its contents say", is_refused, changed(FULL, 20, 4086) + bytes(4), 16, more
-    yield "a million bytes", is_refused, FULL + bytes(1_000_000), 16, more
-    yield "one case in 70000 bytes", is_refused, ONE.ljust(70000, b"\0"), 16, more
 
 
 def documented():
     """A trace for each refusal that docs/replay.md shows, in its order."""
     four = record([Case(128, 0, bytes(512), [OUTSIDE] * count) for count in (244, 0, 0, 0)])
     made = (
-        ONE[:3],
-        numbers(0),
-        numbers(5).ljust(40, b"\0"),
-        changed(four, 40, 384),
-        changed(four, 44, 5000),
-        changed(ONE, 12, 20),
-        changed(four, 48, 4120),
-        ONE[:1040],
-        FULL + b"\0",
+        (is_refused, ONE[:3]),
+        (is_refused, numbers(0)),
+        (is_refused, numbers(5).ljust(40, b"\0")),
+        (is_refused, changed(four, 40, 384)),
+        (is_refused, changed(four, 44, 5000)),
+        (is_refused, changed(ONE, 12, 20)),
+        (is_refused, changed(four, 48, 4120)),
+        (is_refused, ONE[:1040]),
+        (is_broken, four[: 4124 + 236]),
+        (is_broken, four + b"\0"),
     )
     rows = re.findall(r"^\| (15|16) \| `(.*)` \|$", (ROOT / "docs/replay.md").read_text(), re.M)
     if len(rows) != len(made):
         sys.exit(f"replay: docs/replay.md shows {len(rows)} refusals, not {len(made)}")
-    for trace, (number, what) in zip(made, rows):
-        yield f"the page's {what}", is_refused, trace, int(number), what
+    for (test, trace), (number, what) in zip(made, rows):
+        yield f"the page's {what}", test, trace, int(number), what
+
+
+# ---- traces that come in pieces
+
+TWO = record([Case(128, 0, bytes(512), [CADD] * count) for count in (1, 2)])  # bodies from 28 and 1,064 on, to 2,104
+LONG = record([Case(128, 0, bytes(512), [CADD] * count) for count in [3] * 61 + [19]])  # 65,540 bytes
+
+
+def lengthened(trace, count):
+    """A trace with so many cases more, which agree, before its own."""
+    fill = record([Case(128, 0, bytes(512), [CADD])] * count)
+    own, its = replay.contents(fill)[0], replay.contents(trace)[0]
+    bodies = fill[own[0].start :] + trace[its[0].start :]
+    start, contents = 4 + 12 * (count + len(its)), numbers(count + len(its))
+    for length, words, _ in (*own, *its):
+        contents += numbers(length, words, start)
+        start += 8 + 8 * length + 4 * words
+    return contents + bodies
+
+
+def repeated(length, words, count):
+    """A trace of equal cases."""
+    body = record([Case(length, 0, bytes(4 * length), [OUTSIDE] * words)])[16:]
+    starts = range(4 + 12 * count, 4 + 12 * count + count * len(body), len(body))
+    return b"".join((numbers(count), *(numbers(length, words, start) for start in starts), body * count))
+
+
+def by_standard_input():
+    """What a trace that is checked whole prints, and what it does not: the lines before a refusal."""
+    for name, _, trace, *_ in chain(judged(), refused_contents(), refused_first(), refused_total()):
+        yield f"{name}, by -", by_dash, trace
+    for size in (1, 3, 7, 1000, 4096):
+        yield f"pieces of {size}, by -", in_pieces, traces.differ(), size, DASH
+    for cut in (*range(34), 1063, 1065, 2103):
+        yield f"{cut} bytes of two cases", by_dash, TWO[:cut]
+    yield "the first case alone", is_broken, TWO[:1064], 16, "case 1: the body takes 1040 bytes, 0 of them came"
+    yield "all but a byte", is_broken, TWO[:-1], 16, "case 1: the body takes 1040 bytes, 1039 of them came"
+    yield "no byte", is_broken, b"", 15, "the number of cases takes 4 bytes, the trace has 0"
+    yield "contents cut", is_broken, TWO[:27], 15, "cases 2: the contents take 28 bytes, the trace has 27"
+    # What is cut short is told of a trace that is checked whole. Here the number comes before it.
+    wrong = changed(TWO, 16, 384)
+    yield "a length before the cut", is_broken, wrong[:20], 15, f"case 1: length 384: {LENGTH}"
+    yield "a length that is cut", is_broken, wrong[:19], 15, "cases 2: the contents take 28 bytes, the trace has 19"
+    more = "the contents say 2104 bytes, the trace has more"
+    for count in (1, 1000, 1_000_000):
+        yield f"{count} bytes too many", is_broken, TWO + bytes(count), 16, more
+        yield f"{count} bytes after a length", is_broken, wrong[:20] + bytes(count), 15, f"case 1: length 384: {LENGTH}"
+
+
+def due_in_time():
+    """With the last byte, and not before it, while the input stays open."""
+    ends = [places(TWO, k).end for k in range(2)]
+    cuts = [(28, 0), (ends[0] - 1, 0), (ends[0], 1), (ends[1] - 1, 1), (ends[1], 2)]
+    yield "lines when due", when_due, TWO, cuts, False
+    yield "one byte more", when_due, TWO + bytes(2), [(ends[1], 2), (ends[1] + 1, 3)], True
+    for at in (4, 8, 12, 16, 20, 24, 28):
+        yield f"a wrong number before {at}", when_due, changed(TWO, at - 4, ALL_ONES), [(at - 1, 0), (at, 1)], True
+    size = MOST_BYTES + 1
+    whole = sum(places(LONG, k).end <= size for k in range(62))
+    cuts = [(size - 1, 0), (size, whole), (len(LONG), 62)]
+    yield "a file, from its byte 65,537 on", when_due, LONG, cuts, False, NAME
+
+
+def long_files():
+    """Files above 64 KiB, whose lines have the file's name."""
+    yield "65540 bytes that agree", is_kind, LONG, *[replay.AGREES] * 62
+    _, differ, kinds = traces.EXAMPLES[1]
+    mixed = lengthened(differ(), 62)
+    yield "each verdict behind 64 KiB", is_kind, mixed, *[replay.AGREES] * 62, *kinds
+    yield "each verdict behind 64 KiB, by -", by_dash, mixed
+    for size in (1021, 65536, 65537):
+        yield f"long, pieces of {size}", in_pieces, mixed, size, NAME
+    what = "the contents say 65536 bytes, the trace has more"
+    yield "65537 bytes", is_broken, FULL + b"\0", 16, what, NAME
+    yield "a million bytes", is_broken, FULL + bytes(1_000_000), 16, what, NAME
+    what = "the contents say 1052 bytes, the trace has more"
+    yield "one case in 70000 bytes", is_broken, ONE.ljust(70000, b"\0"), 16, what, NAME
+    for cut in (65537, 65539):
+        what = f"case 61: the body takes 1108 bytes, {cut - 64432} of them came"
+        yield f"{cut} bytes of 65540", is_broken, LONG[:cut], 16, what, NAME
+    what = "case 66: the body takes 1064 bytes, 1063 of them came"
+    yield "each verdict, and a cut", is_broken, mixed[:-1], 16, what, NAME
+    for count in (1004, 1005):  # the trace ends 396 bytes before 1 MiB, and 648 behind it
+        yield f"{count} cases", as_modelled, repeated(128, 0, count)
+    longest = repeated(2048, 4096, MOST_CASES)
+    yield "the longest trace", as_modelled, longest
+    what = "the contents say 33574916 bytes, the trace has more"
+    yield "the longest trace, by -, and a byte", is_broken, longest + b"\0", 16, what
 
 
 # ---- the name, the input and the output
@@ -257,6 +446,9 @@ def names():
     for name in (b"", b"a", *odd):
         yield f"the name {name[:20]}", as_modelled, ONE, name + b"\n", name
     yield "a name with no line end", as_modelled, ONE, b"a.trace", b"a.trace"
+    yield "- with no line end", as_modelled, TWO[:-1], DASH, DASH
+    for name in (b"--", b"-a", b"./-", b"a", b"- ", b""):
+        yield f"the name {name}, which is not -", as_modelled, TWO[:-1], name + b"\n", name
     for size in (4095, 4096):
         yield f"a name of {size} bytes", as_modelled, ONE, b"n" * size + b"\n"[: 4096 - size], b"n" * size
     yield "a name of 5000 bytes, cut", as_modelled, ONE, b"n" * 5000, b"n" * 4096
@@ -264,18 +456,24 @@ def names():
 
 
 def around():
-    for trace in (ONE, traces.differ(), ONE[:3]):
+    for trace in (ONE, traces.differ(), ONE[:3], repeated(128, 0, 1005)):
         yield f"no other descriptors, {len(trace)} bytes", alone, trace
     for size in (1, 7, 4096, 65535):
-        yield f"pieces of {size}", in_pieces, traces.differ(), size
-    yield "65536 bytes in pieces", in_pieces, FULL, 1021
-    yield "input that is a folder", from_folder
-    yield "input that is not open", from_nothing
-    yield "output that is full", to_full_device, ONE
-    yield "output that is full, a refusal", to_full_device, b""
+        yield f"pieces of {size}", in_pieces, traces.differ(), size, NAME
+    yield "65536 bytes in pieces", in_pieces, FULL, 1021, NAME
+    for name in (NAME, DASH):
+        yield f"input that is a folder, {name}", from_folder, name
+        yield f"input that is not open, {name}", from_nothing, name
+        yield f"output that is full, {name}", to_full_device, ONE, name
+        yield f"output that is full, a refusal, {name}", to_full_device, b"", name
+    yield "output that is full, a long file", to_full_device, LONG, NAME
+    yield "a device that is gone", from_gone_device, traces.differ(), 3000
 
 
-PARTS = judged, refused_contents, refused_first, refused_total, documented, names, around
+PARTS = (
+    judged, refused_contents, refused_first, refused_total, documented, by_standard_input, due_in_time, long_files,
+    names, around,
+)  # fmt: skip
 
 
 if __name__ == "__main__":

@@ -41,6 +41,7 @@ of_page() {
 ln -s "$archive" "$PWD"/{bindings/systemverilog/kobbeskuim.sv,tests/systemverilog.sv,examples} "$work" || exit 1
 of_page first -DKOB_LENGTH=128 -DKOB_WORDS=1
 of_page replay -Wall -DKOB_TRACE=65536
+of_page stream -Wall -DKOB_PIECE=100
 
 # The constants of the header, but for its version and the fields, which are a structure's members here.
 other='^KOB_(VERSION.*|FAMILY|SIZE|FORM|TURNS|DESTINATION|FIRST|SECOND|INDEX)$'
@@ -53,5 +54,5 @@ prints package "$("$work/texts")" printed systemverilog -Wall
 
 prints designs "$(shown docs/systemverilog.md examples/verilator/run)" examples/verilator/run
 
-echo "verilator: 3 designs and 3 programs, $failed failed"
+echo "verilator: 3 designs and 4 programs, $failed failed"
 [ "$failed" = 0 ]

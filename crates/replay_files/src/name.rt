@@ -38,3 +38,11 @@ pub fn put_name(out: &mut [u8]) -> usize {
     let n = io::read_full(NAME_FILENO, &mut line);
     put_column(out, &line[..n])
 }
+
+// Whether the column is that of the name `-`, which stands for a trace that comes in pieces.
+pub fn is_dash(line: &[u8], start: usize) -> bool {
+    if line.len() < 2 {
+        return false;
+    }
+    (line[0] == b'-') & (start == 2)
+}

@@ -34,10 +34,10 @@ module _ (n m : ℕ) where
   zeros-split : replicate {A = ℕ} (n + m) 0 ≡ replicate n 0 ++ replicate m 0
   zeros-split = sym (replicate-append-replicate n m 0)
 
-  zeros-image : take n (replicate (n + m) 0) ≡ padded n []
+  pub zeros-image : take n (replicate (n + m) 0) ≡ padded n []
   zeros-image = ap (take n) zeros-split ∙ take-at (replicate n 0) _ n (length-replicate n 0) ∙ padded-none n
 
-  zeros-contents : drop n (replicate (n + m) 0) ≡ padded m []
+  pub zeros-contents : drop n (replicate (n + m) 0) ≡ padded m []
   zeros-contents = ap (drop n) zeros-split ∙ drop-at (replicate n 0) _ n (length-replicate n 0) ∙ padded-none m
 
 -- the stream behind a call is over with a refusal, and live otherwise

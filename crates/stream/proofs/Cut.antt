@@ -17,7 +17,7 @@ use Rattle.trace.proofs.Live.{contents-whole}
 use Rattle.trace.proofs.Calls.{calls-same}
 use Rattle.trace.proofs.Streamed.{streamed}
 use Rattle.stream.specs.Body.{InBody}
-use Rattle.stream.specs.Cut.{handed, Runs, done, feed, stop, Alike}
+use Rattle.stream.specs.Cut.{handed, Runs, done, feed, stop, SameRun}
 use Rattle.stream.specs.Kept.{KeptWithin, listing, within, ended, Keeps, Closes}
 use Rattle.stream.specs.declared.state.Course.{Course}
 use Rattle.stream.specs.declared.state.State.{State}
@@ -112,7 +112,7 @@ runs-called s kept (stop piece later r e feeds t) =
 -- ---- the same bytes, from two states of one stream, such as two of `State::new` at `start`
 
 pub cut-free : {a b last last′ : State} {bytes : List ℕ} {v w : List Verdict} (s : Status) → Keeps a s → Keeps b s →
-    Runs a bytes v last → Runs b bytes w last′ → Alike v w last last′
+    Runs a bytes v last → Runs b bytes w last′ → SameRun v w last last′
 cut-free {last = last} {last′ = last′} s p q m n =
     let c = runs-called s p m in
     let d = runs-called s q n in

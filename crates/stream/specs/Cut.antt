@@ -25,6 +25,6 @@ pub data Runs : State → List ℕ → List Verdict → State → Type 0 where
   stop : {state : State} (piece later : List ℕ) (r : Fed) (e : End) → Feeds state piece r → r .told ≡ Told.Over e → Runs state (piece ++ later) [] (r .state)
 
 -- what two runs have in common
-pub record Alike (v w : List Verdict) (a b : State) : Type 0 where
+pub record SameRun (v w : List Verdict) (a b : State) : Type 0 where
   pub verdicts : v ≡ w
   pub state : a ≡ b

@@ -51,6 +51,7 @@ pub record KeptListing (h image contents : List ℕ) (m : Marks) : Type 0 where
   pub entries : contents ≡ padded 12288 (drop 4 h)
   pub marks : m ≡ listingMarks h
 
+-- behind the last body, k is the number of cases: what is read of an entry k is then of no use, since no byte of a body has come
 pub record KeptWithin (h : List ℕ) (k : ℕ) (image contents : List ℕ) (m : Marks) : Type 0 where
   pub entries : contents ≡ padded 12288 (entriesIn h)
   pub phase : m .phase ≡ Phase.Bodies

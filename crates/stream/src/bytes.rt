@@ -3,7 +3,8 @@ ghost use mathlib.Core.Path.{_≡_};
 ghost use Prim.Native.Nat.{_%_};
 ghost use lib.ListN.{length, set, replicate};
 
-// The bytes of a number with one more, which is byte `at` of its part. All parts are whole numbers, so that is its place too.
+// The bytes of a number with one more, which is byte `at` of the contents or of a body. All that stands before a number there is a multiple of four bytes,
+// so `at % 4` is its place.
 pub fn with_byte(held: [u8; 4], at: usize, b: u8) -> [u8; 4]
     ensures { λ r. ⌜ (r ≡ set held (at % 4) b) × (length r ≡ 4) ⌝ }
 {

@@ -75,7 +75,7 @@ fn count_byte(at: usize, held: [u8; 4]) -> Stepped
     refuse(End::BadContents)
 }
 
-// The start of a body, which is whole with byte `at` of the contents. The tests of what no stream leaves keep the sums in range.
+// The start of a body, which is whole with byte `at` of the contents. No stream leaves such a count or such a sum: the test keeps sums in range.
 fn start_number(contents: &[u8], cases: usize, due: usize, at: usize, start: usize) -> Stepped
     requires { ⌜ (length (now contents) ≡ 12288) × (15 ≤ at) × (at < 12292) ⌝ }
     ensures { λ r. ⌜ r ≡ startOn (now (contents .entry)) cases due at start ⌝ }
@@ -105,7 +105,7 @@ fn entry_number(contents: &[u8], cases: usize, due: usize, at: usize) -> Stepped
     if column == 11 {
         return start_number(contents, cases, due, at, n);
     }
-    if is_legal(n) & (column == 3) | (n <= 4096) & (column == 7) {
+    if (is_legal(n) & (column == 3)) | ((n <= 4096) & (column == 7)) {
         return on(cases, due, at + 1, [0u8; 4]);
     }
     refuse(End::BadContents)

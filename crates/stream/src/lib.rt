@@ -1,7 +1,7 @@
 // A trace that comes in pieces: the state that is handed on, and the calls with some bytes and at the end.
 mod bodies;
 mod body;
-mod bytes;
+pub mod bytes;
 mod case;
 mod contents;
 pub mod feed;

@@ -1,15 +1,18 @@
 -- How a stream is cut does not matter. `calls-whole`: whatever the calls, they bring the verdicts and leave the status of all bytes in one piece; so
 -- `calls-same`: two callers with the same bytes get the same. `calls-some`: there are such calls. `whole-append`: verdicts that were handed out stand.
 -- `feed-over`, `end-over`: after a refusal or the end every call gives that same answer. `feed-piece`: one call, by a piece of its bytes of which only the last
--- may bring something; `piece-quiet`, `piece-case`, `piece-over`: by what it brings. `feed-taken`: a call takes no more than its bytes. Assumes nothing.
+-- may bring something; `piece-quiet`, `piece-case`, `piece-over`: by what it brings. `takes-first`: a call takes its bytes up to and with the first that brings something, else all; `feed-taken`: no
+-- more than there are. Assumes nothing.
 use mathlib.Core.Path.{_≡_, refl, sym, ap, _∙_, subst}
 use mathlib.Core.List.{List, [], _∷_, _++_}
-use Prim.Native.Nat.{ℕ, suc, _+_, _<_, _≤_}
+use mathlib.Core.Bool.{Bool, true, false, true≢false}
+use Prim.Native.Nat.{ℕ, zero, suc, _+_, _<_, _≤_}
 use native.Mathlib.Omega.{arith}
 use lib.ListN.{length, take, drop}
 use lib.Seq.{append-snoc}
 use Rattle.trace.specs.Stream.{dueOf, then, Status, live, over}
 use Rattle.trace.specs.Feed.{Fed, more, goesOn, feedFrom, feedOf, endOf, Whole, toldOf, wholeOn, wholeFrom, wholeOf, Calls, none, rest, call}
+use Rattle.trace.specs.Streamed.{TakesFirst}
 use Rattle.trace.specs.declared.types.Verdict.{Verdict}
 use Rattle.trace.specs.declared.types.Told.{Told}
 use Rattle.trace.specs.declared.types.End.{End}
@@ -160,14 +163,66 @@ module _ (h piece later : List ℕ) (some : 0 < length piece) (quiet : Quiet h p
       feedFrom (piece ++ later) h ≡ record { taken = length piece; told = Told.Over e; status = over e }
   piece-over e f = told-by (Told.Over e) f
 
--- ---- a call takes no more than its bytes
+-- ---- a call takes its bytes up to and with the first that brings something
 
-taken-by : (d : Told) (n bytes : List ℕ) → ((h : List ℕ) → feedFrom bytes h .taken ≤ length bytes) → goesOn d n (feedFrom bytes) .taken ≤ suc (length bytes)
-taken-by Told.Nothing n bytes ih = omega (arith, ih n)
-taken-by (Told.Case v) n bytes ih = omega arith
-taken-by (Told.Over e) n bytes ih = omega arith
+abbrev isNothing : Told → Bool
+isNothing Told.Nothing = true
+isNothing (Told.Case v) = false
+isNothing (Told.Over e) = false
+
+module _ (h : List ℕ) (b : ℕ) (bytes : List ℕ) where
+  -- the first byte brings something
+  first-here : (d : Told) → isNothing d ≡ false → dueOf (then h b) ≡ d → (status : Status) →
+      TakesFirst h (b ∷ bytes) (record { taken = 1; told = d; status = status })
+  first-here d n e status = record {
+    within = omega arith;
+    some = λ l. omega arith;
+    none = λ z. absurd (omega arith);
+    quiet = λ j l m. absurd (omega arith);
+    told = λ l. sym e;
+    all = λ f. absurd (true≢false (sym (ap isNothing f) ∙ n));
+  }
+
+  -- it brings nothing
+  module _ (f : Fed) (e : dueOf (then h b) ≡ Told.Nothing) (r : TakesFirst (then h b) bytes f) where
+    onward : (j : ℕ) → dueOf (then h b ++ take j bytes) ≡ dueOf (h ++ take (suc j) (b ∷ bytes))
+    onward j = ap dueOf (append-snoc h b (take j bytes))
+
+    later-quiet : (j : ℕ) → 0 < j → j < suc (f .taken) → dueOf (h ++ take j (b ∷ bytes)) ≡ Told.Nothing
+    later-quiet zero l m = absurd (omega arith)
+    later-quiet (suc zero) l m = e
+    later-quiet (suc (suc j)) l m = sym (onward (suc j)) ∙ r .quiet (suc j) (omega arith) (omega arith)
+
+    later-told : (n : ℕ) → f .taken ≡ n → f .told ≡ dueOf (h ++ take (suc n) (b ∷ bytes))
+    later-told zero z = r .none z ∙ sym e
+    later-told (suc k) z = r .told (omega arith) ∙ ap (λ (i : ℕ). dueOf (then h b ++ take i bytes)) z ∙ onward (suc k)
+
+    first-later : TakesFirst h (b ∷ bytes) (more f)
+    first-later = record {
+      within = omega (arith, r .within);
+      some = λ l. omega arith;
+      none = λ z. absurd (omega arith);
+      quiet = later-quiet;
+      told = λ l. later-told (f .taken) refl;
+      all = λ t. ap suc (r .all t);
+    }
+
+  first-by : (d : Told) → dueOf (then h b) ≡ d → ((g : List ℕ) → TakesFirst g bytes (feedFrom bytes g)) → TakesFirst h (b ∷ bytes) (goesOn d (then h b) (feedFrom bytes))
+  first-by Told.Nothing e ih = first-later (feedFrom bytes (then h b)) e (ih (then h b))
+  first-by (Told.Case v) e ih = first-here (Told.Case v) refl e (live (then h b))
+  first-by (Told.Over x) e ih = first-here (Told.Over x) refl e (over x)
+
+pub takes-first : (bytes h : List ℕ) → TakesFirst h bytes (feedFrom bytes h)
+unfolding feedFrom
+takes-first [] h = record {
+  within = omega arith;
+  some = λ l. l;
+  none = λ z. refl;
+  quiet = λ j l m. absurd (omega arith);
+  told = λ l. absurd (omega arith);
+  all = λ t. refl;
+}
+takes-first (b ∷ bytes) h = first-by h b bytes (dueOf (then h b)) refl (takes-first bytes)
 
 pub feed-taken : (bytes h : List ℕ) → feedFrom bytes h .taken ≤ length bytes
-unfolding feedFrom
-feed-taken [] h = omega arith
-feed-taken (b ∷ bytes) h = taken-by (dueOf (then h b)) (then h b) bytes (feed-taken bytes)
+feed-taken bytes h = takes-first bytes h .within

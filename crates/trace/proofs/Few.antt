@@ -1,5 +1,5 @@
 -- How many bytes one call takes at most. `within-few`: past the contents 32,776, the longest body. `feed-few`: from within the contents also the 12,292 bytes
--- of the longest contents. Assumes nothing.
+-- of the longest contents; `listing-few`: fewer have come of them. Assumes nothing.
 use mathlib.Core.Path.{_≡_}
 use mathlib.Core.List.{List, [], _∷_}
 use Prim.Native.Nat.{ℕ, suc, _+_, _<_, _≤_}
@@ -55,7 +55,7 @@ within-few h k bytes v =
 
 -- ---- within the contents
 
-listing-few : (h : List ℕ) → Listing h → length h < 12292
+pub listing-few : (h : List ℕ) → Listing h → length h < 12292
 listing-few h v = elim (decLe 4 (length h)) [ yes l ↦ omega (arith, v .short, listing-cases h v l .1) | no l ↦ omega arith ]
 
 listing-by : (h : List ℕ) (b : ℕ) (bytes : List ℕ) → length h < 12292 → (Listing (then h b) → length (then h b) + feedFrom bytes (then h b) .taken ≤ 45068) →

@@ -13,3 +13,4 @@ pub mod Byte
 pub mod Calls
 pub mod Streamed
 pub mod Few
+pub mod Place

@@ -1,6 +1,6 @@
 -- Request A9's numbers and verdicts, exactly: `accept-exact` (a trace), `case-exact` (a case of an accepted trace) and `judge-exact` (a case asked for).
--- `verdict-exact`: the verdict on any body whose parts have their sizes. `case-runs`: document 01's run of a case is never refused. `number-small`,
--- `kind-small`, `place-small`: how large the answers are. Assumes nothing.
+-- `verdict-exact`: the verdict on any body whose parts have their sizes. `case-runs`: document 01's run of a case is never refused. `verdict-small`,
+-- `number-small`, `kind-small`, `place-small`: how large the answers are. Assumes nothing.
 use mathlib.Core.Path.{_≡_, refl, sym, ap, ap₂, _∙_, subst}
 use mathlib.Core.Logic.{_↔_}
 use mathlib.Core.List.{List}
@@ -158,6 +158,9 @@ module _ (L : ℕ) (b : Body) (z : Sized L b) where
   case-small (CaseReturns.file-differs s i f r d) = (omega arith, omega (arith, d .within, run-sizes r .0, legal-exact L .0 (z .ok) .most))
   case-small (CaseReturns.flag-differs s f r same other) = (omega arith, omega arith)
   case-small (CaseReturns.agrees s f r same flag) = (omega arith, omega arith)
+
+  pub verdict-small : (verdictKind (verdictOn L b) < 18) × (verdictPlace (verdictOn L b) < 8192)
+  verdict-small = case-small (verdict-exact _ _ .0 (refl, refl))
 
 -- ---- the cases of an accepted trace
 

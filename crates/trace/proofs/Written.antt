@@ -1,5 +1,5 @@
 -- A trace that was written of recordings, as it is read. `recorded-body`: the length, the word count and the body of a case are those of its recording.
--- `recorded-accepted`: the trace is accepted, with a case for each. Assumes nothing.
+-- `recorded-accepted`: the trace is accepted, with a case for each. `four-bytes`: a number in four bytes is read back. Assumes nothing.
 use mathlib.Core.Path.{_≡_, refl, sym, ap, _∙_}
 use mathlib.Core.Option.{some}
 use mathlib.Core.List.{List, [], _∷_, _++_, append-assoc}
@@ -23,7 +23,7 @@ use Rattle.trace.proofs.Prefix.{word-drop}
 
 -- ---- numbers in four bytes
 
-four-bytes : (n : ℕ) → n < 4294967296 → wordOf (n % 256) (n / 256 % 256) (n / 65536 % 256) (n / 16777216 % 256) ≡ n
+pub four-bytes : (n : ℕ) → n < 4294967296 → wordOf (n % 256) (n / 256 % 256) (n / 65536 % 256) (n / 16777216 % 256) ≡ n
 four-bytes n l =
     let e₂ : n / 65536 ≡ n / 256 / 256 = omega arith in
     let e₃ : n / 16777216 ≡ n / 65536 / 256 = omega arith in

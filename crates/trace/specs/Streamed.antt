@@ -2,16 +2,18 @@
 use Prim.Native.Nat.{ℕ, zero, suc, _<_, _≤_}
 use mathlib.Core.Path.{_≡_}
 use mathlib.Core.Option.{some}
-use mathlib.Core.List.{List, [], _∷_}
+use mathlib.Core.List.{List, [], _∷_, _++_}
 use mathlib.Core.Bool.{true, false}
 use lib.Dec.{eqb}
-use lib.ListN.{length, getElem?}
+use lib.ListN.{length, take, getElem?}
 use Rattle.trace.specs.Trace.{casesOf, begins, totalOf, contentsAllowed}
 use Rattle.trace.specs.Verdict.{caseOf, judgeOf}
-use Rattle.trace.specs.Stream.{pickEnd}
+use Rattle.trace.specs.Stream.{pickEnd, dueOf}
+use Rattle.trace.specs.Feed.{Fed}
 use Rattle.trace.specs.declared.types.Verdict.{Verdict}
 use Rattle.trace.specs.declared.types.Accepted.{Accepted}
 use Rattle.trace.specs.declared.types.Judged.{Judged}
+use Rattle.trace.specs.declared.types.Told.{Told}
 use Rattle.trace.specs.declared.types.End.{End}
 
 -- 15, then 16 for a wrong total
@@ -53,3 +55,12 @@ pub record EndsBody (h : List ℕ) (v : Verdict) : Type 0 where
   pub below : k < casesOf h
   pub here : length h ≡ begins h (suc k)
   pub verdict : v ≡ caseOf h k
+
+-- a call behind the bytes h (`takes-first`, proofs/Calls.antt): it takes its bytes up to and with the first that brings something, else all
+pub record TakesFirst (h bytes : List ℕ) (f : Fed) : Type 0 where
+  pub within : f .taken ≤ length bytes
+  pub some : 0 < length bytes → 0 < f .taken
+  pub none : f .taken ≡ 0 → f .told ≡ Told.Nothing
+  pub quiet : (j : ℕ) → 0 < j → j < f .taken → dueOf (h ++ take j bytes) ≡ Told.Nothing
+  pub told : 0 < f .taken → f .told ≡ dueOf (h ++ take (f .taken) bytes)
+  pub all : f .told ≡ Told.Nothing → f .taken ≡ length bytes

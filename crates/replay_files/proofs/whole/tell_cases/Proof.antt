@@ -3,8 +3,8 @@ use borrow.Author.Needs.{needs}
 use mathlib.Core.Path.{_≡_}
 use Prim.Native.Nat.{_≤_, _-_}
 use lib.ListN.{length}
-use Rattle.replay_files.proofs.tell_cases.Statement.{statement}
-use Rattle.replay_files.proofs.tell_cases.Tie as tie
+use Rattle.replay_files.proofs.whole.tell_cases.Statement.{statement}
+use Rattle.replay_files.proofs.whole.tell_cases.Tie as tie
 
 abbrev Inv-loop : tie.InvT-loop
 Inv-loop trace line₀ start cases agree₀ k₀ line agree k = (agree ≤ k) × (length line ≡ length line₀)
@@ -25,7 +25,6 @@ tell-cases-spec =
     (λ c. search needs)
     (λ c. search needs)
     (λ c. search needs)
-    (λ c κs. search needs)
     (λ c κs. search needs)
     (λ c. search needs)
     (λ c. search needs)

@@ -1,0 +1,36 @@
+use native.Mathlib.Omega.{arith}
+use borrow.Author.Needs.{needs}
+use lib.ListN.{length-set}
+use Rattle.capi_stream.proofs.Stored.{put-four}
+use Rattle.capi_stream.proofs.marks.put.Statement.{statement}
+use Rattle.capi_stream.proofs.marks.put.Tie as tie
+
+slice-write-bytes-2 : tie.Need-slice-write-bytes-2
+slice-write-bytes-2 c = simp length-set (omega arith)
+
+slice-write-bytes-3 : tie.Need-slice-write-bytes-3
+slice-write-bytes-3 c = simp length-set (omega arith)
+
+slice-write-bytes-4 : tie.Need-slice-write-bytes-4
+slice-write-bytes-4 c = simp length-set (omega arith)
+
+returns : tie.Need-returns
+returns c = put-four (c .args .bytes .now) (c .args .at) (c .args .n) (c .pre)
+
+pub put-spec : {M : Type 1} → statement M
+put-spec =
+    tie.close
+    (tie.spec
+    (λ c. search needs)
+    (λ c. search needs)
+    (λ c. search needs)
+    (λ c. search needs)
+    slice-write-bytes-2
+    (λ c. search needs)
+    (λ c. search needs)
+    slice-write-bytes-3
+    (λ c. search needs)
+    (λ c. search needs)
+    slice-write-bytes-4
+    (λ c. search needs)
+    returns)
