@@ -7,6 +7,9 @@
  *   bench words ROW                  the program of a row, as little-endian words
  *   bench replay ROUNDS              a line for each length and number of words of a case: both, the cases
  *                                    of the trace, and the nanoseconds a case of the archive and of plain C
+ *   bench stream ROUNDS              a line for each size of pieces of a trace: that size, the trace's bytes, the
+ *                                    calls, and the nanoseconds of all calls of the archive and of plain C;
+ *                                    last the nanoseconds of two copies of a state
  *
  * A program has 4,096 words of one row, with every rotation and index. The registers of a word are
  * drawn anew and differ from one another: compiled C loops fall back to slow code where they coincide. */
@@ -218,6 +221,81 @@ static void replays(int rounds)
     }
 }
 
+/* ---- a trace in pieces */
+
+static union {
+    uint8_t bytes[KOB_STREAM_SIZE];
+    struct plain_stream plain;
+} state;
+
+static uint64_t feed_archive(const uint8_t *bytes, size_t length)
+{
+    return kob_stream_feed(state.bytes, KOB_STREAM_SIZE, bytes, length);
+}
+
+static uint64_t feed_plain(const uint8_t *bytes, size_t length)
+{
+    return plain_stream_feed(&state.plain, bytes, length);
+}
+
+typedef uint64_t feed(const uint8_t *bytes, size_t length);
+
+static feed *const feeds[] = {feed_archive, feed_plain};
+
+/* All calls for the trace in pieces of one size, and how many there are. */
+static double stream_seconds(int side, size_t length, size_t piece, size_t *calls)
+{
+    struct timespec a, b;
+    memset(&state, 0, sizeof state);
+    *calls = 0;
+    clock_gettime(CLOCK_MONOTONIC, &a);
+    for (size_t at = 0; at < length; ++*calls) {
+        uint64_t told = feeds[side](trace + at, piece < length - at ? piece : length - at);
+        at += told >> 32;
+        if (told >> 32 == 0 || ((uint32_t)told != 0 && (uint32_t)told != KOB_AGREES << 8)) {
+            fprintf(stderr, "bench: a trace in pieces did not agree\n");
+            exit(1);
+        }
+    }
+    clock_gettime(CLOCK_MONOTONIC, &b);
+    return b.tv_sec - a.tv_sec + 1e-9 * (b.tv_nsec - a.tv_nsec);
+}
+
+/* Two copies of a state, as a call makes that takes it and gives it back by value. */
+static double copy_seconds(void)
+{
+    enum { COPIES = 2000 };
+    static void *(*volatile copy)(void *to, const void *from, size_t size) = memcpy;
+    static uint8_t other[KOB_STREAM_SIZE];
+    struct timespec a, b;
+    clock_gettime(CLOCK_MONOTONIC, &a);
+    for (int k = 0; k < COPIES; k++) {
+        copy(other, state.bytes, sizeof other);
+        copy(state.bytes, other, sizeof other);
+    }
+    clock_gettime(CLOCK_MONOTONIC, &b);
+    return (b.tv_sec - a.tv_sec + 1e-9 * (b.tv_nsec - a.tv_nsec)) / COPIES;
+}
+
+/* Cases of few words: the cost is that of taking the bytes. */
+static void streams(int rounds)
+{
+    static const size_t pieces[] = {4096, 16};
+    size_t l = 2048, count = 2, cases = put_trace(l, count), length = 4 + (20 + 8 * l + 4 * count) * cases;
+    size_t calls = 0;
+    double copied = 1e9;
+    for (int row = 0; row < 2; row++) {
+        double best[2] = {1e9, 1e9};
+        for (int turn = 0; turn < 6 * rounds; turn++) {
+            double taken = stream_seconds(turn % 2, length, pieces[row], &calls), copying = copy_seconds();
+            best[turn % 2] = taken < best[turn % 2] ? taken : best[turn % 2];
+            copied = copying < copied ? copying : copied;
+        }
+        printf("%zu\t%zu\t%zu\t%.0f\t%.0f\n", pieces[row], length, calls, 1e9 * best[0], 1e9 * best[1]);
+    }
+    printf("%.0f\n", 1e9 * copied);
+}
+
 int main(int count, char **given)
 {
     for (size_t k = 0; k < sizeof fresh; k++)
@@ -237,9 +315,11 @@ int main(int count, char **given)
         fwrite(words, sizeof words, 1, stdout);
     } else if (count == 3 && !strcmp(what, "replay")) {
         replays(atoi(given[2]));
+    } else if (count == 3 && !strcmp(what, "stream")) {
+        streams(atoi(given[2]));
     } else {
-        fprintf(stderr,
-                "usage: bench time ROUNDS LENGTH... | count SIDE ROW LENGTH | rows | words ROW | replay ROUNDS\n");
+        fprintf(stderr, "usage: bench time ROUNDS LENGTH... | count SIDE ROW LENGTH | rows | words ROW | replay ROUNDS"
+                        " | stream ROUNDS\n");
         return 2;
     }
     return 0;

@@ -1,5 +1,5 @@
-/* A plain C implementation of document 01's run and of request A9's replay: the yardstick for the
- * library's speed, and one of the two programs that the harness compares it with.
+/* A plain C implementation of document 01's run, of request A9's replay and of request A10's stream: the
+ * yardstick for the library's speed, and one of the two programs that the harness compares it with.
  *
  * Written for speed as portable C goes: a switch over the words, and a loop for each family, width
  * and rotation that the compiler can turn into vector code; no intrinsics. Elements are read and
@@ -15,7 +15,7 @@ enum { SCALAR, VECTOR_64, VECTOR_128 };
 enum { DONE, BAD_LENGTH, BAD_SIZE, TOO_LONG, OUTSIDE, RESERVED, NOT_POWER_OF_TWO = 11 };
 enum { BAD_CONTENTS = 15, BAD_TOTAL, BAD_FLAG, NO_CASE = 22 };
 enum { AGREES = 1, FILE_DIFFERS, FLAG_DIFFERS }; /* verdicts; OUTSIDE, RESERVED and BAD_FLAG are too */
-enum { MOST_WORDS = 4096, MOST_FILE = 8192, MOST_CASES = 1024, MOST_TRACE = 65536 };
+enum { MOST_WORDS = 4096, MOST_FILE = PLAIN_FILE, MOST_CASES = PLAIN_CASES, MOST_TRACE = 65536 };
 
 struct op {
     unsigned family, size, form, turns, d, n, m, index;
@@ -433,4 +433,164 @@ uint64_t plain_replay(const uint8_t *trace, size_t length, size_t n)
         return NO_CASE;
     const uint8_t *entry = trace + 4 + 12 * n;
     return plain_case(trace + number_at(entry + 8), number_at(entry), number_at(entry + 4));
+}
+
+/* ---- a trace in pieces. Words run as they come, and the file after is compared as it comes. */
+
+static inline size_t lesser(size_t a, size_t b)
+{
+    return a < b ? a : b;
+}
+
+static uint64_t over(struct plain_stream *s, unsigned number)
+{
+    s->over = true;
+    s->number = number;
+    return number;
+}
+
+/* The bytes taken for a number; it is whole, in s->value, where none of its bytes is missing then. */
+static inline size_t take_number(struct plain_stream *s, const uint8_t *bytes, size_t length)
+{
+    size_t some = lesser(4 - s->value_bytes, length);
+    memcpy((uint8_t *)&s->value + s->value_bytes, bytes, some);
+    s->value_bytes = (s->value_bytes + some) % 4;
+    return some;
+}
+
+/* Whether the number is allowed as the next of the contents. */
+static bool take_listed(struct plain_stream *s, uint32_t x)
+{
+    uint32_t k = s->listed++;
+    if (k == 0) {
+        s->cases = x;
+        s->due = 4 + 12 * x;
+        return x >= 1 && x <= MOST_CASES;
+    }
+    struct plain_entry *entry = &s->entries[(k - 1) / 3];
+    switch (k % 3) {
+    case 1: entry->l = x; return plain_check(x, 4 * (size_t)x) == DONE;
+    case 2: entry->words = x; return x <= MOST_WORDS;
+    }
+    bool right = x == s->due;
+    s->due += 8 + 8 * entry->l + 4 * entry->words;
+    return right;
+}
+
+/* All bytes of the contents that are there; 15 with the first number that is not allowed. */
+static uint64_t take_contents(struct plain_stream *s, const uint8_t *bytes, size_t length, size_t *taken)
+{
+    while (*taken < length && s->listed < 1 + 3 * s->cases) {
+        *taken += take_number(s, bytes + *taken, length - *taken);
+        if (s->value_bytes == 0 && !take_listed(s, s->value))
+            return over(s, BAD_CONTENTS);
+    }
+    return DONE;
+}
+
+static void run_word(struct plain_stream *s, size_t l, uint32_t word, size_t place)
+{
+    struct op op = {0};
+    int number = decode(word, &op);
+    if (number == DONE) {
+        s->qc = step(&op, s->file, l / 8, s->qc);
+        return;
+    }
+    s->stopped = number;
+    s->place = place;
+}
+
+/* The bytes taken for the words and the flags of a body. */
+static size_t take_body_number(struct plain_stream *s, const uint8_t *bytes, size_t length, size_t l, size_t flag)
+{
+    size_t some = take_number(s, bytes, length), start = s->at + some - 4;
+    s->at += some;
+    if (s->value_bytes != 0)
+        return some;
+    if (start == 0 || start == flag)
+        s->bad_flag |= s->value > 1;
+    if (start == 0)
+        s->qc = s->value;
+    else if (start == flag)
+        s->after = s->value;
+    else if (!s->bad_flag && !s->stopped)
+        run_word(s, l, s->value, (start - 4 - 4 * l) / 4);
+    return some;
+}
+
+/* The bytes taken for the file after. */
+static size_t take_after(struct plain_stream *s, const uint8_t *bytes, size_t length, size_t start, size_t size)
+{
+    size_t at = s->at - start, some = lesser(size - at, length);
+    if (!s->bad_flag && !s->stopped && !s->differs) {
+        size_t place = first_difference(s->file + at, bytes, some);
+        s->differs = place < some;
+        s->place = s->differs ? at + place : 0;
+    }
+    s->at += some;
+    return some;
+}
+
+static uint64_t body_verdict(const struct plain_stream *s)
+{
+    if (s->bad_flag)
+        return verdict(BAD_FLAG, 0);
+    if (s->stopped)
+        return verdict(s->stopped, s->place);
+    if (s->differs)
+        return verdict(FILE_DIFFERS, s->place);
+    return verdict(s->qc == s->after ? AGREES : FLAG_DIFFERS, 0);
+}
+
+/* The bytes of the body in hand that are there; its verdict with the last of them. */
+static uint64_t take_body(struct plain_stream *s, const uint8_t *bytes, size_t length, size_t *taken)
+{
+    size_t l = s->entries[s->n].l, words = 4 + 4 * l, flag = words + 4 * s->entries[s->n].words;
+    size_t end = flag + 4 + 4 * l;
+    while (*taken < length && s->at < end) {
+        const uint8_t *next = bytes + *taken;
+        size_t left = length - *taken;
+        if (s->at >= 4 && s->at < words) {
+            size_t some = lesser(words - s->at, left);
+            memcpy(s->file + s->at - 4, next, some);
+            s->at += some;
+            *taken += some;
+        } else if (s->at >= flag + 4) {
+            *taken += take_after(s, next, left, flag + 4, 4 * l);
+        } else {
+            *taken += take_body_number(s, next, left, l, flag);
+        }
+    }
+    if (s->at < end)
+        return DONE;
+    uint64_t told = body_verdict(s);
+    s->n++;
+    s->at = s->place = 0;
+    s->stopped = 0;
+    s->bad_flag = s->differs = false;
+    return told;
+}
+
+uint64_t plain_stream_feed(struct plain_stream *s, const uint8_t *bytes, size_t length)
+{
+    size_t taken = 0;
+    if (s->over || length == 0)
+        return s->number;
+    uint64_t told = take_contents(s, bytes, length, &taken);
+    if (told == DONE && taken < length) {
+        if (s->n < s->cases)
+            told = take_body(s, bytes, length, &taken);
+        else
+            taken++, told = over(s, BAD_TOTAL);
+    }
+    return told | (uint64_t)taken << 32;
+}
+
+uint32_t plain_stream_end(struct plain_stream *s)
+{
+    if (!s->over) {
+        bool listed = s->listed == 1 + 3 * s->cases;
+        over(s, !listed ? BAD_CONTENTS : s->n < s->cases ? BAD_TOTAL : DONE);
+    }
+    return s->number;
 }

@@ -9,7 +9,8 @@
  * is only used during the call. Where the length is 0 the pointer may be null, in
  * every part of every call: nothing is read or written through it. A part that a
  * call writes to (a pointer with no const) overlaps no other part of the same call.
- * No call keeps state, so threads may call at the same time.
+ * No call keeps state of its own (a stream's is lent by the caller), so threads may
+ * call at the same time.
  *
  * Link with libkobbeskuim.a or libkobbeskuim.so, which './kob staticlib' builds
  * (x86-64 Linux). Of the C library its code needs memcpy and memset alone.
@@ -29,9 +30,9 @@ extern "C" {
 #define KOB_CAST(type, value) ((type)(value))
 #endif
 
-#define KOB_VERSION "0.3.0"
+#define KOB_VERSION "0.4.0"
 #define KOB_VERSION_MAJOR 0
-#define KOB_VERSION_MINOR 3
+#define KOB_VERSION_MINOR 4
 #define KOB_VERSION_PATCH 0
 
 /* ---- limits */
@@ -56,9 +57,13 @@ extern "C" {
 /* The most words that a listing lists; one more gives its LIMIT line. */
 #define KOB_LIST_WORDS_MAX 1048576
 
-/* The most bytes of a trace, 64 KiB, and the most cases that its contents may name. */
+/* The most bytes of a trace that kob_replay takes, 64 KiB (a stream has no such limit),
+ * and the most cases that its contents may name. */
 #define KOB_TRACE_MAX 65536
 #define KOB_CASES_MAX 1024
+
+/* The bytes of a stream's state. */
+#define KOB_STREAM_SIZE 20544
 
 /* ---- numbers answered */
 
@@ -102,7 +107,7 @@ static inline const char *kob_text(unsigned number) {
     case KOB_BAD_TOTAL: return "trace above 64 KiB or not as long as its contents say";
     case KOB_BAD_FLAG: return "flag neither 0 nor 1";
     case KOB_NO_CASE: return "case not below the number of cases";
-    case KOB_BAD_FIELDS: return "fields not 8 numbers";
+    case KOB_BAD_FIELDS: return "fields not 8 numbers, or state not 20,544 bytes";
     case KOB_NO_OPERATION: return "fields that name no operation";
     default: return "no number of these calls";
     }
@@ -234,7 +239,7 @@ uint64_t kob_list(const uint8_t *bytes, size_t length, uint8_t *out, size_t room
 
 /* The kinds of verdict. KOB_OUTSIDE, KOB_RESERVED and KOB_BAD_FLAG are kinds too, and
  * of these kob_text has the text. */
-#define KOB_NO_VERDICT 0 /* on a refusal */
+#define KOB_NO_VERDICT 0 /* on a refusal, and where a stream has none to give */
 #define KOB_AGREES 1
 #define KOB_FILE_DIFFERS 2
 #define KOB_FLAG_DIFFERS 3
@@ -269,6 +274,55 @@ uint64_t kob_replay(const uint8_t *trace, size_t length, size_t n);
 static inline unsigned kob_replay_number(uint64_t answer) { return KOB_CAST(unsigned, answer & 0xFF); }
 static inline unsigned kob_replay_kind(uint64_t answer) { return KOB_CAST(unsigned, answer >> 8 & 0xFF); }
 static inline unsigned kob_replay_place(uint64_t answer) { return KOB_CAST(unsigned, answer >> 16 & 0xFFFF); }
+
+/* ---- a trace in pieces */
+
+/* A stream is a trace that comes in pieces, of any size. Its state is KOB_STREAM_SIZE
+ * bytes, which the caller sets to 0 at the start and lends to every call; what they mean
+ * is the library's affair. They may stand at any address, and may be copied. */
+
+/*
+ * Hands in the next bytes of the stream. However they are cut, a piece with no bytes
+ * too, the verdicts and the end are those of one whole piece.
+ *
+ * Where no byte of the piece brings a verdict or a refusal, all are taken: KOB_DONE and
+ * KOB_NO_VERDICT. Else they are taken up to and with the first that does, and the rest
+ * is to be handed in again:
+ *   the last byte of a case's body: KOB_DONE, and the case's kind and place, as
+ *     kob_replay gives them. Cases come in order, and KOB_TRACE_MAX is no limit here.
+ *     What comes later does not change a verdict;
+ *   the last byte of the first number of the contents that is not allowed:
+ *     KOB_BAD_CONTENTS;
+ *   the first byte past the last body: KOB_BAD_TOTAL.
+ * After a refusal or the end: the number of that refusal or end, KOB_NO_VERDICT, no byte
+ * is taken, and the state is as it was. After an end with KOB_DONE that is the answer of a
+ * piece with no bytes: a loop that hands in the rest must not go on then.
+ *
+ * KOB_BAD_FIELDS: state_length is not KOB_STREAM_SIZE. KOB_NO_VERDICT, no byte is taken,
+ * and nothing is changed.
+ */
+uint64_t kob_stream_feed(uint8_t *state, size_t state_length, const uint8_t *bytes, size_t length);
+
+/* The answer's parts: the number in bits 0 to 7, the kind in bits 8 to 15 and the place
+ * (at most 8,191) in bits 16 to 31, the bytes taken (at most 45,068, which is all of the
+ * longest contents and body) in bits 32 to 63. Where no place is named it is 0. */
+static inline unsigned kob_stream_number(uint64_t answer) { return KOB_CAST(unsigned, answer & 0xFF); }
+static inline unsigned kob_stream_kind(uint64_t answer) { return KOB_CAST(unsigned, answer >> 8 & 0xFF); }
+static inline unsigned kob_stream_place(uint64_t answer) { return KOB_CAST(unsigned, answer >> 16 & 0xFFFF); }
+static inline size_t kob_stream_taken(uint64_t answer) { return answer >> 32; }
+
+/*
+ * Says that no byte follows. The number is
+ *   KOB_BAD_CONTENTS: the contents are not whole, or there was no byte at all;
+ *   KOB_BAD_TOTAL: a body is missing or not whole;
+ *   KOB_DONE: the last body is whole.
+ * The stream has then ended with that number. After a refusal or the end: that number
+ * again. KOB_BAD_FIELDS: state_length is not KOB_STREAM_SIZE, and nothing is changed.
+ *
+ * On a state that no calls from one of zeros leave, the answers of both calls are free;
+ * they return, write to nothing but the state and take at most `length` bytes.
+ */
+uint32_t kob_stream_end(uint8_t *state, size_t state_length);
 
 #ifdef __cplusplus
 }

@@ -444,7 +444,7 @@ class Streams(unittest.TestCase):
         with self.assertRaises(StreamRefused) as caught:
             next(given)
         for refused in (caught.exception, pickle.loads(pickle.dumps(caught.exception))):
-            self.assertEqual((refused.number, refused.taken), (Number.BAD_TOTAL, 1))
+            self.assertEqual((refused.number, refused.taken), (Number.BAD_TOTAL, len(trace) + 1))
 
     def test_verdicts_hand_in_no_more_than_is_asked_for(self):
         stream, trace = Stream(), traces.differ()

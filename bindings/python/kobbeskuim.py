@@ -1,5 +1,5 @@
 """Kobbeskuim from Python: AArch64's saturating complex vector instructions, executed, decoded, written and listed, and
-a recorder's trace of them replayed.
+a recorder's trace of them replayed, whole or in pieces.
 
 One file over the shared library, by ctypes. SQCADD at 128 bits: Z0 = (0, 0), Z1 = (-128, -128), 90 degrees.
 
@@ -12,8 +12,8 @@ Ran(done=1, qc=False)
 [127, -128]
 
 What the library refuses is a Refused, which has its number. A number that C cannot take (negative, or of too many
-bits) is a ValueError, and what is no number or no fitting buffer a TypeError. No call keeps state, so threads may
-call at the same time, each with a file of its own. include/kobbeskuim.h says more of each call.
+bits) is a ValueError, and what is no number or no fitting buffer a TypeError. No call keeps state but in its Stream, so
+threads may call at the same time, each with a file or a stream of its own. include/kobbeskuim.h says more of each call.
 """
 
 from __future__ import annotations
@@ -24,12 +24,12 @@ from array import array
 from enum import IntEnum
 from operator import index as as_int
 from pathlib import Path
-from typing import TYPE_CHECKING, Iterable, NamedTuple, SupportsIndex
+from typing import TYPE_CHECKING, Iterable, Iterator, NamedTuple, SupportsIndex
 
 if TYPE_CHECKING:
     from _typeshed import ReadableBuffer, WriteableBuffer
 
-VERSION = "0.3.0"
+VERSION = "0.4.0"
 _SONAME = f"libkobbeskuim.so.{VERSION.split('.')[0]}"
 
 # ---- limits
@@ -40,8 +40,9 @@ REGISTERS = 32
 FILE_SIZE_MAX = 8192  # bytes; a register file has 4 x L
 WORDS_MAX = 4096  # of a program
 LIST_WORDS_MAX = 1048576  # of a listing; one more gives its LIMIT line
-TRACE_MAX = 65536  # bytes
+TRACE_MAX = 65536  # bytes, but where a trace comes as a stream
 CASES_MAX = 1024  # that the contents of a trace may name
+STREAM_SIZE = 20544  # bytes of a stream's state
 
 # ---- numbers answered, and the exceptions that carry them
 
@@ -73,7 +74,7 @@ class Number(IntEnum):
     BAD_TOTAL = 16, "trace above 64 KiB or not as long as its contents say"
     BAD_FLAG = 17, "flag neither 0 nor 1"  # the kind of a verdict, not a refusal
     NO_CASE = 22, "case not below the number of cases"
-    BAD_FIELDS = 32, "fields not 8 numbers"
+    BAD_FIELDS = 32, "fields not 8 numbers, or state not 20,544 bytes"
     NO_OPERATION = 33, "fields that name no operation"
 
 
@@ -98,6 +99,15 @@ class Stopped(Refused):
 
     def __str__(self) -> str:
         return f"{super().__str__()}: at word {self.done}, {self.word:08X}"
+
+
+class StreamRefused(Refused):
+    """A stream is over by a refusal. `taken` is how many bytes the call took, up to and with the one that brought it;
+    on every later call it is 0."""
+
+    def __init__(self, number: Number, taken: int) -> None:
+        super().__init__(number, taken)
+        self.taken = taken
 
 
 # ---- operations
@@ -146,7 +156,7 @@ class Ran(NamedTuple):
 
 
 class Kind(IntEnum):
-    """What is said of a case. NO_VERDICT is C's, on a refusal."""
+    """What is said of a case. NO_VERDICT is C's, where there is no case to say something of."""
 
     NO_VERDICT = 0
     AGREES = 1
@@ -165,6 +175,13 @@ class Verdict(NamedTuple):
     place: int = 0
 
 
+class Fed(NamedTuple):
+    """How many bytes a stream took, up to and with the one that brought a verdict, else all; and that verdict."""
+
+    taken: int
+    verdict: Verdict | None
+
+
 # ---- the shared library
 
 _SIZE, _WORD, _ANSWER = ctypes.c_size_t, ctypes.c_uint32, ctypes.c_uint64
@@ -178,6 +195,8 @@ _CALLS = {
     "kob_encode": (_ANSWER, _WORDS, _SIZE),
     "kob_list": (_ANSWER, _BYTES, _SIZE, _BYTES, _SIZE),
     "kob_replay": (_ANSWER, _BYTES, _SIZE, _SIZE),
+    "kob_stream_feed": (_ANSWER, _BYTES, _SIZE, _BYTES, _SIZE),
+    "kob_stream_end": (_WORD, _BYTES, _SIZE),
 }
 
 # Of any buffer, an empty one too, from_buffer of these is a pointer to its start.
@@ -320,10 +339,15 @@ def listing(data: ReadableBuffer) -> str:
     return out[:length].decode("ascii")
 
 
+def _told(answer: int) -> Verdict:
+    """The verdict in an answer of kob_replay or kob_stream_feed."""
+    return Verdict(Kind(answer >> 8 & 0xFF), answer >> 16 & 0xFFFF)
+
+
 def _verdict(trace: bytearray, n: int) -> Verdict:
     answer = _library.kob_replay(_Bytes.from_buffer(trace), len(trace), n)
     _done(answer & 0xFF)
-    return Verdict(Kind(answer >> 8 & 0xFF), answer >> 16)
+    return _told(answer)
 
 
 def replay(trace: ReadableBuffer, n: SupportsIndex) -> Verdict:
@@ -345,3 +369,59 @@ def replay_all(trace: ReadableBuffer) -> list[Verdict]:
     given = bytearray(memoryview(trace))
     first = _verdict(given, 0)  # raises where the trace is refused, so that its number of cases is good
     return [first, *(_verdict(given, n) for n in range(1, int.from_bytes(given[:4], "little")))]
+
+
+class Stream:
+    """A recorder's trace that comes in pieces, of any size. However it is cut, the verdicts and the end are those of
+    one whole piece, and each verdict is the one that `replay` gives the case.
+
+    >>> contents = array("I", [1, 128, 0, 16]).tobytes()  # one case, at 128 bits, of no words, its body at byte 16
+    >>> stream = Stream()
+    >>> stream.feed(contents + bytes(1000))
+    Fed(taken=1016, verdict=None)
+    >>> stream.feed(bytes(32))
+    Fed(taken=32, verdict=Verdict(kind=<Kind.AGREES: 1>, place=0))
+    >>> stream.end()
+    """
+
+    def __init__(self) -> None:
+        self._state = bytearray(STREAM_SIZE)
+
+    def _feed(self, piece: bytearray | memoryview) -> Fed:
+        state = _Bytes.from_buffer(self._state)
+        answer = _library.kob_stream_feed(state, STREAM_SIZE, _Bytes.from_buffer(piece), len(piece))
+        number, verdict, taken = answer & 0xFF, _told(answer), answer >> 32
+        if number:
+            raise StreamRefused(Number(number), taken)
+        return Fed(taken, verdict if verdict.kind else None)
+
+    def feed(self, data: ReadableBuffer) -> Fed:
+        """Hands in the next bytes, of which there may be none. A verdict falls due with the last byte of its case's
+        body; what is not taken then is to be handed in again.
+
+        StreamRefused, now and on every later call: by 15 with the last byte of the first number of the contents that is
+        not allowed, by 16 with the first byte past the last body. After an end that was not refused nothing is taken.
+        """
+        return self._feed(bytearray(memoryview(data)))
+
+    def verdicts(self, data: ReadableBuffer) -> Iterator[Verdict]:
+        """Hands in these bytes, and gives each verdict as it falls due: bytes behind a verdict are handed in when the
+        next one is asked for, so all of them only where it is iterated to its end. StreamRefused as by `feed`, with
+        the bytes of `data` that were taken."""
+        whole = rest = memoryview(bytearray(memoryview(data)))
+        taken = 1
+        while taken:  # it is 0 with no bytes left, and after the end
+            try:
+                taken, verdict = self._feed(rest)
+            except StreamRefused as refused:
+                raise StreamRefused(refused.number, len(whole) - len(rest) + refused.taken) from None
+            rest = rest[taken:]
+            if verdict:
+                yield verdict
+
+    def end(self) -> None:
+        """Says that no byte follows. StreamRefused by 15 where the contents are not whole, by 16 where a body is missing
+        or not whole; after a refusal or an end, by the same number or not at all."""
+        number = _library.kob_stream_end(_Bytes.from_buffer(self._state), STREAM_SIZE)
+        if number:
+            raise StreamRefused(Number(number), 0)

@@ -29,7 +29,7 @@ void saturate() {
 void leave_empty(uint8_t *no_bytes, uint32_t *no_numbers) {
     const uint32_t word = 0x4501D820; /* SQCADD Z0.B, Z0.B, Z1.B, 90 */
     const Bytes bytes(4);
-    Bytes file(KOB_FILE_SIZE(128)), text(KOB_LIST_ROOM(0));
+    Bytes file(KOB_FILE_SIZE(128)), text(KOB_LIST_ROOM(0)), state(KOB_STREAM_SIZE);
     tell("run, no words", kob_run_number(kob_run(128, file.data(), file.size(), false, no_numbers, 0)));
     tell("run, no file", kob_run_number(kob_run(128, no_bytes, 0, false, &word, 1)));
     tell("run, neither", kob_run_number(kob_run(0, no_bytes, 0, false, no_numbers, 0)));
@@ -41,6 +41,10 @@ void leave_empty(uint8_t *no_bytes, uint32_t *no_numbers) {
                          kob_list(no_bytes, 0, no_bytes, 0) == KOB_NO_ROOM;
     std::cout << "list, no room: " << (refused ? "refused" : "taken") << "\n";
     tell("replay, no trace", kob_replay_number(kob_replay(no_bytes, 0, 0)));
+    tell("feed, no state", kob_stream_number(kob_stream_feed(no_bytes, 0, bytes.data(), bytes.size())));
+    tell("feed, no bytes", kob_stream_number(kob_stream_feed(state.data(), state.size(), no_bytes, 0)));
+    tell("end, no state", kob_stream_end(no_bytes, 0));
+    tell("end, after no bytes", kob_stream_end(state.data(), state.size()));
 }
 
 } // namespace

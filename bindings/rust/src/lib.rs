@@ -2,7 +2,7 @@
 //!
 //! Every call of the archive is proved to meet its contract for every input, to stay inside the memory
 //! that it is lent, and to end. A slice hands over its own length, so every argument is good, an empty
-//! slice too. No call keeps state, so threads may call at the same time.
+//! slice too. No call keeps state but in its [`Stream`], so threads may call at the same time.
 //!
 //! ```
 //! use kobbeskuim::{Family, Fields, Size, encode, file_size, register_mut, run};
@@ -34,11 +34,14 @@ pub const WORDS_MAX: usize = 4096;
 /// The most words that a listing lists; one more gives its LIMIT line.
 pub const LIST_WORDS_MAX: usize = 1_048_576;
 
-/// The most bytes of a trace, 64 KiB.
+/// The most bytes of a trace, 64 KiB, but where it comes as a [`Stream`].
 pub const TRACE_MAX: usize = 65_536;
 
 /// The most cases that the contents of a trace may name.
 pub const CASES_MAX: usize = 1024;
+
+/// The bytes of a [`Stream`]'s state.
+pub const STREAM_SIZE: usize = 20_544;
 
 /// The bytes of a register file: registers 0 to 31 in order, L/8 bytes each, little-endian, element 0
 /// first. Register Vn is the first 16 bytes of Zn.
@@ -88,7 +91,7 @@ macro_rules! numbers {
 }
 
 numbers! {
-    /// Why a call refuses. `BAD_FIELDS` is for C alone: [`Fields`] has its eight numbers.
+    /// Why a call refuses. `BAD_FIELDS` is for C alone: [`Fields`] and [`Stream`] have their sizes.
     Refused {
         BAD_LENGTH = 1: "length not a multiple of 128 from 128 to 2,048",
         BAD_SIZE = 2: "file not 4 x L bytes",
@@ -104,7 +107,7 @@ numbers! {
         BAD_CONTENTS = 15: "contents cut short or not allowed",
         BAD_TOTAL = 16: "trace above 64 KiB or not as long as its contents say",
         NO_CASE = 22: "case not below the number of cases",
-        BAD_FIELDS = 32: "fields not 8 numbers",
+        BAD_FIELDS = 32: "fields not 8 numbers, or state not 20,544 bytes",
         NO_OPERATION = 33: "fields that name no operation",
     }
 }
@@ -180,6 +183,8 @@ unsafe extern "C" {
     fn kob_encode(fields: *const Fields, length: usize) -> u64;
     fn kob_list(bytes: *const u8, length: usize, out: *mut u8, room: usize) -> u64;
     fn kob_replay(trace: *const u8, length: usize, n: usize) -> u64;
+    fn kob_stream_feed(state: *mut u8, state_length: usize, bytes: *const u8, length: usize) -> u64;
+    fn kob_stream_end(state: *mut u8, state_length: usize) -> u32;
 }
 
 fn answered<T>(number: u32, value: T) -> Result<T, Refused> {
@@ -335,6 +340,21 @@ impl fmt::Display for Verdict {
     }
 }
 
+/// The verdict in an answer of `kob_replay` or `kob_stream_feed`. Kind 0 is none.
+fn verdict(answer: u64) -> Option<Verdict> {
+    let place = ((answer >> 16) & 0xFFFF) as usize;
+    Some(match (answer >> 8) & 0xFF {
+        0 => return None,
+        1 => Verdict::Agrees,
+        2 => Verdict::FileDiffers(place),
+        3 => Verdict::FlagDiffers,
+        4 => Verdict::Outside(place),
+        5 => Verdict::Reserved(place),
+        17 => Verdict::BadFlag,
+        kind => unreachable!("a verdict of kind {kind}"),
+    })
+}
+
 /// The verdict on case n, counted from 0, of a recorder's trace of up to [`TRACE_MAX`] bytes. The first of
 /// `BAD_CONTENTS`, `BAD_TOTAL` and `NO_CASE` that applies refuses; include/kobbeskuim.h says how a trace is made.
 ///
@@ -352,15 +372,107 @@ impl fmt::Display for Verdict {
 pub fn replay(trace: &[u8], n: usize) -> Result<Verdict, Refused> {
     // Safety: the part is a slice.
     let r = unsafe { kob_replay(trace.as_ptr(), trace.len(), n) };
-    let place = ((r >> 16) & 0xFFFF) as usize;
     answered((r & 0xFF) as u32, ())?;
-    Ok(match (r >> 8) & 0xFF {
-        1 => Verdict::Agrees,
-        2 => Verdict::FileDiffers(place),
-        3 => Verdict::FlagDiffers,
-        4 => Verdict::Outside(place),
-        5 => Verdict::Reserved(place),
-        17 => Verdict::BadFlag,
-        kind => unreachable!("a verdict of kind {kind}"),
-    })
+    Ok(verdict(r).expect("a case that is there has a verdict"))
+}
+
+/// What [`Stream::feed`] tells.
+#[derive(Clone, Copy, Debug, PartialEq, Eq, Hash)]
+pub enum Told {
+    /// No byte of the piece brought anything.
+    Nothing,
+    /// The verdict on the next case.
+    Case(Verdict),
+    /// The stream is over: by a refusal, or as [`Stream::end`] answered.
+    Over(Result<(), Refused>),
+}
+
+/// How many bytes [`Stream::feed`] took, and what it tells.
+#[must_use = "what was not taken is to be handed in again, and a verdict is told once"]
+#[derive(Clone, Copy, Debug, PartialEq, Eq, Hash)]
+pub struct Fed {
+    /// The bytes up to and with the one that brought something, else all; 0 where the stream was over. The rest is
+    /// to be handed in again.
+    pub taken: usize,
+    /// What the last of them brought.
+    pub told: Told,
+}
+
+/// A recorder's trace that comes in pieces, of any size. However it is cut, the verdicts and the end are those of one
+/// whole piece, and each verdict is the one that [`replay`] gives the case.
+///
+/// ```
+/// use kobbeskuim::{Refused, Stream, Told, Verdict, file_size};
+///
+/// // One case, at 128 bits, of no words, its body at byte 16: QC, the file, QC and the file, all of zeros.
+/// let mut trace = [1u32, 128, 0, 16].map(u32::to_le_bytes).concat();
+/// trace.resize(16 + 2 * (4 + file_size(128)), 0);
+///
+/// // The verdicts on a trace that comes in these pieces, and how it ends.
+/// fn judge<'a>(pieces: impl Iterator<Item = &'a [u8]>) -> (Vec<Verdict>, Result<(), Refused>) {
+///     let (mut stream, mut verdicts) = (Stream::new(), vec![]);
+///     for mut rest in pieces {
+///         while !rest.is_empty() {
+///             let fed = stream.feed(rest);
+///             match fed.told {
+///                 Told::Nothing => {}
+///                 Told::Case(verdict) => verdicts.push(verdict),
+///                 Told::Over(_) => break,
+///             }
+///             rest = &rest[fed.taken..];
+///         }
+///     }
+///     (verdicts, stream.end())
+/// }
+/// assert_eq!(judge(trace.chunks(100)), (vec![Verdict::Agrees], Ok(())));
+/// assert_eq!(judge(trace[..1000].chunks(7)), (vec![], Err(Refused::BAD_TOTAL)));
+/// ```
+#[derive(Clone)]
+pub struct Stream {
+    state: Box<[u8; STREAM_SIZE]>,
+    /// Ended with no refusal: `kob_stream_feed` answers then as while nothing falls due, with no byte taken.
+    complete: bool,
+}
+
+impl Stream {
+    /// Before the first byte.
+    pub fn new() -> Self {
+        Self { state: Box::new([0; STREAM_SIZE]), complete: false }
+    }
+
+    /// Hands in the next bytes, of which there may be none. A verdict falls due with the last byte of its case's body;
+    /// `BAD_CONTENTS` with the last byte of the first number of the contents that is not allowed; `BAD_TOTAL` with the
+    /// first byte past the last body.
+    pub fn feed(&mut self, bytes: &[u8]) -> Fed {
+        // Safety: both parts are slices, and the state is this stream's own.
+        let r = unsafe { kob_stream_feed(self.state.as_mut_ptr(), STREAM_SIZE, bytes.as_ptr(), bytes.len()) };
+        let told = match (answered((r & 0xFF) as u32, ()), verdict(r)) {
+            (Err(refused), _) => Told::Over(Err(refused)),
+            (Ok(()), Some(verdict)) => Told::Case(verdict),
+            (Ok(()), None) if self.complete => Told::Over(Ok(())),
+            (Ok(()), None) => Told::Nothing,
+        };
+        Fed { taken: (r >> 32) as usize, told }
+    }
+
+    /// Says that no byte follows. `BAD_CONTENTS` where the contents are not whole, `BAD_TOTAL` where a body is missing
+    /// or not whole; after a refusal or an end that same answer.
+    pub fn end(&mut self) -> Result<(), Refused> {
+        // Safety: the part is a slice, and this stream's own.
+        let number = unsafe { kob_stream_end(self.state.as_mut_ptr(), STREAM_SIZE) };
+        self.complete = number == 0;
+        answered(number, ())
+    }
+}
+
+impl Default for Stream {
+    fn default() -> Self {
+        Self::new()
+    }
+}
+
+impl fmt::Debug for Stream {
+    fn fmt(&self, f: &mut fmt::Formatter) -> fmt::Result {
+        f.debug_struct("Stream").field("complete", &self.complete).finish_non_exhaustive()
+    }
 }

@@ -236,6 +236,96 @@ fn longest_trace() {
     assert_eq!(replay(&full, 0), Err(Refused::BAD_TOTAL));
 }
 
+/// Hands in a trace in pieces of this size, each with an empty one before it. What is told, with the place behind the
+/// byte that brought it; up to the first refusal.
+fn told(stream: &mut Stream, trace: &[u8], size: usize) -> Vec<(usize, Told)> {
+    let (mut told, mut place) = (vec![], 0);
+    for mut rest in trace.chunks(size) {
+        assert_eq!(stream.feed(&[]), Fed { taken: 0, told: Told::Nothing });
+        while !rest.is_empty() {
+            let fed = stream.feed(rest);
+            place += fed.taken;
+            rest = &rest[fed.taken..];
+            match fed.told {
+                Told::Nothing => assert!(rest.is_empty(), "not all was taken, and nothing told"),
+                _ => told.push((place, fed.told)),
+            }
+            if let Told::Over(_) = fed.told {
+                return told;
+            }
+        }
+    }
+    told
+}
+
+/// Every later call takes nothing and gives the same answer.
+fn stays(mut stream: Stream, end: Result<(), Refused>) {
+    for piece in [&[][..], &[1], &[0; 100_000]] {
+        assert_eq!(stream.feed(piece), Fed { taken: 0, told: Told::Over(end) });
+        assert_eq!(stream.end(), end);
+    }
+}
+
+/// Two cases at 128 bits, of one word and of none: bodies of 1,036 and 1,032 bytes from byte 28 on.
+fn two() -> Vec<u8> {
+    trace(&[(&[SQCADD], [0, 1], file([127, 0x80])), (&[], [0, 0], file([0, 0]))])
+}
+
+#[test]
+fn streams() {
+    let trace = two();
+    let wanted = [(1064, Told::Case(Verdict::FlagDiffers)), (2096, Told::Case(Verdict::Agrees))];
+    for size in (1..30).chain([1035, 1036, 1064, 1065, trace.len()]) {
+        let mut stream = Stream::new();
+        assert_eq!(told(&mut stream, &trace, size), wanted, "in pieces of {size}");
+        let (mut other, refused) = (stream.clone(), Refused::BAD_TOTAL);
+        assert_eq!(stream.end(), Ok(()));
+        stays(stream, Ok(()));
+        assert_eq!(other.feed(&[0; 2]), Fed { taken: 1, told: Told::Over(Err(refused)) });
+        stays(other, Err(refused));
+    }
+}
+
+/// Verdicts stand where the line breaks.
+#[test]
+fn streams_cut_short() {
+    let trace = two();
+    for size in [0, 1, 4, 27, 28, 29, 1063, 1064, 1065, 2095] {
+        let mut stream = Stream::default();
+        assert_eq!(told(&mut stream, &trace[..size], 7).len(), usize::from(size >= 1064), "{size} bytes");
+        let refused = if size < 28 { Refused::BAD_CONTENTS } else { Refused::BAD_TOTAL };
+        assert_eq!(stream.end(), Err(refused), "{size} bytes");
+        stays(stream, Err(refused));
+    }
+}
+
+#[test]
+fn streams_refused() {
+    let wrong = [(0, 0), (0, 1025), (4, 384), (8, 4097), (12, 27), (16, 0), (20, u32::MAX), (24, 1063), (24, 1065)];
+    for (at, number) in wrong {
+        let mut trace = two();
+        trace[at..at + 4].copy_from_slice(&numbers(&[number]));
+        for size in [1, 3, 2096] {
+            let (mut stream, refused) = (Stream::new(), Err(Refused::BAD_CONTENTS));
+            assert_eq!(told(&mut stream, &trace, size), [(at + 4, Told::Over(refused))], "{number} at {at}");
+            stays(stream, refused);
+        }
+    }
+}
+
+/// 1,024 cases, and more than [`TRACE_MAX`] bytes.
+#[test]
+fn longest_stream() {
+    let trace = trace(&vec![(&[][..], [1, 1], file([0, 0])); CASES_MAX]);
+    let wanted: Vec<_> = (1..=CASES_MAX).map(|n| (12_292 + 1032 * n, Told::Case(Verdict::Agrees))).collect();
+    for size in [1000, trace.len()] {
+        let mut stream = Stream::new();
+        assert_eq!(told(&mut stream, &trace, size), wanted);
+        assert_eq!(stream.end(), Ok(()));
+    }
+    assert_eq!(replay(&trace, 0), Err(Refused::BAD_TOTAL));
+}
+
 /// The header: in the tree, or in the prefix that the crate is installed into.
 fn header() -> String {
     let read =
@@ -260,6 +350,7 @@ fn as_in_the_header() {
         ("LIST_WORDS_MAX", LIST_WORDS_MAX),
         ("TRACE_MAX", TRACE_MAX),
         ("CASES_MAX", CASES_MAX),
+        ("STREAM_SIZE", STREAM_SIZE),
         ("FIELDS", size_of::<Fields>() / 4),
     ];
     let numbers = (limits.iter().map(|(name, limit)| (name.to_string(), *limit as u32)))
