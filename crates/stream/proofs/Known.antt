@@ -1,21 +1,13 @@
 -- What is known of a case. `known-picked`, `open-picked`, `closed-picked`: the choice by a verdict that is known in part. `executed`: words that are run.
--- `done-few`: a run does at most its words. Assumes nothing.
+-- Assumes nothing.
 use mathlib.Core.Path.{_≡_, refl, sym, ap, _∙_}
 use mathlib.Core.List.{List, [], _∷_}
-use mathlib.Core.Bool.{Bool, true, false, true≢false}
-use Prim.Native.Nat.{ℕ, _+_, _/_, _≤_}
-use native.Mathlib.Omega.{arith}
-use lib.ListN.{length}
+use mathlib.Core.Bool.{true, false, true≢false}
+use Prim.Native.Nat.{ℕ, _+_}
 use types.Run.{OneOf, miss}
 use denote.Enum.Declared.{tagOf}
-use Rattle.isa.specs.Bytes.{wordsOf}
-use Rattle.isa.specs.Run.{Outcome, outcomeOf}
+use Rattle.isa.specs.Run.{Outcome}
 use Rattle.isa.specs.declared.types.Ran.{Ran}
-use Rattle.isa.proofs.Bytes.{words-length}
-use Rattle.isa.proofs.FileChecks.{check-passed}
-use Rattle.isa.proofs.Going.{outcome-runs}
-use Rattle.isa.proofs.Run.{run-count}
-use Rattle.regfile.specs.Sweep.{Held}
 use Rattle.trace.specs.declared.types.Verdict.{Verdict}
 use Rattle.trace.proofs.types.Verdict.{the-type}
 use Rattle.stream.specs.Body.{stopSaid}
@@ -48,14 +40,6 @@ module _ {A : Type 0} (a b : A) where
   closed-picked (Verdict.Outside k) e = refl
   closed-picked (Verdict.Reserved k) e = refl
   closed-picked Verdict.BadFlag e = refl
-
-pub done-few : (L : ℕ) (file : List ℕ) (qc : Bool) (bytes : List ℕ) → Held L file → length bytes ≤ 16384 →
-    outcomeOf L file qc (wordsOf bytes) .answer .done ≤ length bytes / 4
-done-few L file qc bytes held few =
-    let size = words-length bytes in
-    let same = outcome-runs L file qc (wordsOf bytes) (check-passed L (length file) (held .ok) (held .sized)) (omega arith) in
-    let e = ap (λ (o : Outcome). o .answer .done) same in
-    omega (arith, run-count L (wordsOf bytes) file qc .0)
 
 pub executed : (done : ℕ) (v : Verdict) → v ≡ Verdict.Agrees → (o : Outcome) (r : Ran) (left : List ℕ) → record { answer = r; file = left } ≡ o → (said : Verdict) →
     said ≡ stopSaid (r .ending) (done + r .done) → (other : Worked) →

@@ -257,31 +257,31 @@ module _ (h : List ℕ) (b : ℕ) (image contents : List ℕ) where
 
 -- ---- one byte is taken
 
-one-taken : (t : Bool) (r s : Stepped) → r .taken ≡ 1 → s .taken ≡ 1 → pickStepped t r s .taken ≡ 1
-one-taken true r s e f = e
-one-taken false r s e f = f
+picked-one : (t : Bool) (r s : Stepped) → r .taken ≡ 1 → s .taken ≡ 1 → pickStepped t r s .taken ≡ 1
+picked-one true r s e f = e
+picked-one false r s e f = f
 
 extent-taken : (e : Extent) (cases at : ℕ) → extentOn e cases at .taken ≡ 1
-extent-taken (Extent.Ends end) cases at = one-taken (eqb (at + 1) (4 + 12 * cases)) _ _ refl refl
+extent-taken (Extent.Ends end) cases at = picked-one (eqb (at + 1) (4 + 12 * cases)) _ _ refl refl
 extent-taken Extent.Refused cases at = refl
 
 count-taken : (at : ℕ) (held : List ℕ) → countOn at held .taken ≡ 1
 unfolding countOn
-count-taken at held = one-taken (ltb at 3) _ _ refl (one-taken (leb 1 (wordAt held 0) && leb (wordAt held 0) 1024) _ _ refl refl)
+count-taken at held = picked-one (ltb at 3) _ _ refl (picked-one (leb 1 (wordAt held 0) && leb (wordAt held 0) 1024) _ _ refl refl)
 
 start-taken : (contents : List ℕ) (cases due at start : ℕ) → startOn contents cases due at start .taken ≡ 1
 unfolding startOn
 start-taken contents cases due at start =
     let e = bodyEnd (wordAt contents (at - 15)) (wordAt contents (at - 11)) start due in
-    one-taken (ltb 1024 cases || ltb 0x400_0000 due) (refusedOn End.BadContents) (extentOn e cases at) refl (extent-taken e cases at)
+    picked-one (ltb 1024 cases || ltb 0x400_0000 due) (refusedOn End.BadContents) (extentOn e cases at) refl (extent-taken e cases at)
 
 number-taken : (contents : List ℕ) (cases due at : ℕ) → numberOn contents cases due at .taken ≡ 1
 unfolding numberOn
 number-taken contents cases due at =
     let n = wordAt contents (at - 7) in
     let t = (legal n && eqb ((at - 4) % 12) 3) || (leb n 4096 && eqb ((at - 4) % 12) 7) in
-    one-taken (eqb ((at - 4) % 12) 11) _ (pickStepped t (listedOn cases due (at + 1) (padded 4 [])) (refusedOn End.BadContents))
-    (start-taken contents cases due at n) (one-taken t _ _ refl refl)
+    picked-one (eqb ((at - 4) % 12) 11) _ (pickStepped t (listedOn cases due (at + 1) (padded 4 [])) (refusedOn End.BadContents))
+    (start-taken contents cases due at n) (picked-one t _ _ refl refl)
 
 -- ---- by the marks ahead of the byte
 

@@ -3,8 +3,11 @@
 use mathlib.Core.Path.{sym, ap}
 use native.Mathlib.Omega.{arith}
 use borrow.Author.Needs.{needs}
+use Rattle.isa.specs.Bytes.{wordsOf}
 use Rattle.isa.specs.Run.{Outcome}
-use Rattle.stream.proofs.Known.{known-picked, executed, done-few}
+use Rattle.isa.proofs.Bytes.{words-length}
+use Rattle.trace.proofs.Place.{outcome-count}
+use Rattle.stream.proofs.Known.{known-picked, executed}
 use Rattle.stream.proofs.case.execute.Statement.{statement}
 use Rattle.stream.proofs.case.execute.Tie as tie
 
@@ -16,7 +19,8 @@ add-stopped c =
     let r = c .before .before .before in
     let st = r .before .before .before .before .before .before in
     let a = st .args in
-    let few = done-few (a .l) (a .file .now) (a .s .qc) (a .words .now) (st .pre .0) (st .pre .1) in
+    let few = outcome-count (a .l) (a .file .now) (a .s .qc) (wordsOf (a .words .now)) in
+    let size = words-length (a .words .now) in
     let same = ap (λ (o : Outcome). o .answer .done) (r .run-bytes .ensures) in
     omega (arith, st .pre .2, st .pre .1)
 
