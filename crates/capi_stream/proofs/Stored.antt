@@ -58,18 +58,19 @@ module _ (numbers bytes : List ℕ) where
   unfolding foursOf
   fours-none e = record { sized = e; most = omega arith; first = refl }
 
-  pub fours-more : (i : ℕ) (next : List ℕ) → Fours numbers bytes i → i < length numbers → length next ≡ length bytes →
-      take (i * 4 + 4) next ≡ take (i * 4) bytes ++ fourOf (getD numbers i 0) → Fours numbers next (i + 1)
+  pub fours-more : (i at : ℕ) (next : List ℕ) → at ≡ i * 4 → Fours numbers bytes i → i < length numbers → length next ≡ length bytes →
+      take (at + 4) next ≡ take at bytes ++ fourOf (getD numbers i 0) → Fours numbers next (i + 1)
   unfolding foursOf
-  fours-more i next f l e p =
-      let at : (i + 1) * 4 ≡ i * 4 + 4 = omega arith in
+  fours-more i at next a f l e p =
+      let on : (i + 1) * 4 ≡ at + 4 = omega arith in
+      let stored : take at bytes ≡ foursOf (take i numbers) = rw a (f .first) in
       let n : ℕ = getD numbers i 0 in
       let last : foursOf (n ∷ []) ≡ fourOf n = append-nil (fourOf n) in
       let longer : take (i + 1) numbers ≡ take i numbers ++ (n ∷ []) = rw add-one (take-suc numbers i 0 l) in
       record {
         sized = e ∙ f .sized;
         most = omega arith;
-        first = rw at (p ∙ ap (λ (x : List ℕ). x ++ fourOf n) (f .first)) ∙ ap (λ (x : List ℕ). foursOf (take i numbers) ++ x) (sym last)
+        first = rw on p ∙ ap (λ (x : List ℕ). x ++ fourOf n) stored ∙ ap (λ (x : List ℕ). foursOf (take i numbers) ++ x) (sym last)
             ∙ sym (fours-append (take i numbers) (n ∷ [])) ∙ ap foursOf (sym longer);
       }
 

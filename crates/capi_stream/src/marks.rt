@@ -134,7 +134,7 @@ fn put_numbers(bytes: &mut [u8], numbers: &[usize])
     ensures { λ _. ⌜ now (bytes .exit) ≡ foursOf (now (numbers .entry)) ⌝ }
 {
     for i in 0..numbers.len() {
-        put(bytes, i * 4, numbers[i]);
+        put(bytes, i << 2, numbers[i]);
     }
 }
 

@@ -8,3 +8,5 @@ pub mod Bits
 pub mod Narrow
 pub mod Read
 pub mod Ends
+pub mod Columns
+pub mod Raised

@@ -52,14 +52,18 @@ module _ {n w : Width} {q : ℕ} (r : Wide n w q) where
   abs-lane {z} f = rw (half n) (natAbs-le z (f .sfits))
 
   -- the product
-  fits-exact : {a b : ℤ} → SFits n a → SFits n b → SFits w (a *ℤ b)
+  pub fits-exact : {a b : ℤ} → SFits n a → SFits n b → SFits w (a *ℤ b)
   fits-exact {a} {b} f g = record { sfits = omega (arith, product-mag (hbits n) a b (f .sfits) (g .sfits), r .room) }
 
-  pub fits-product : {a b : ℤ} → SFits n a → SFits n b → SFits w (toZ w (ofZ w (toZ n (ofZ n a))) *ℤ toZ w (ofZ w (toZ n (ofZ n b))))
-  fits-product f g = simp (read-cast f, read-cast g) (fits-exact f g)
+  -- the product as it is worked out in a wider width k, and cast to w
+  wider : (k : Width) {a b p : ℤ} → SFits n a → SFits n b → mag p < 2 ^ hbits k → p ≡ toZ w (ofZ w (toZ n (ofZ n a))) *ℤ toZ w (ofZ w (toZ n (ofZ n b))) → toZ k (ofZ k p) ≡ a *ℤ b
+  wider k f g h e = kept k _ h ∙ e ∙ simp (read-cast f, read-cast g)
 
-  pub product-read : {a b : ℤ} → SFits n a → SFits n b → toZ w (ofZ w (toZ w (ofZ w (toZ n (ofZ n a))) *ℤ toZ w (ofZ w (toZ n (ofZ n b))))) ≡ a *ℤ b
-  product-read f g = simp (read-cast f, read-cast g, toZ-ofZ (fits-exact f g))
+  pub fits-wider : (k : Width) {a b p : ℤ} → SFits n a → SFits n b → mag p < 2 ^ hbits k → p ≡ toZ w (ofZ w (toZ n (ofZ n a))) *ℤ toZ w (ofZ w (toZ n (ofZ n b))) → SFits w (toZ k (ofZ k p))
+  fits-wider k f g h e = rw (wider k f g h e) (fits-exact f g)
+
+  pub read-wider : (k : Width) {a b p : ℤ} → SFits n a → SFits n b → mag p < 2 ^ hbits k → p ≡ toZ w (ofZ w (toZ n (ofZ n a))) *ℤ toZ w (ofZ w (toZ n (ofZ n b))) → toZ w (ofZ w (toZ k (ofZ k p))) ≡ a *ℤ b
+  read-wider k f g h e = rw (wider k f g h e) (toZ-ofZ (fits-exact f g))
 
   -- what the product's local reads
   exact : {a b p : ℤ} → SFits n a → SFits n b → mag p < 2 ^ hbits w → p ≡ toZ n (ofZ n a) *ℤ toZ n (ofZ n b) → toZ w (ofZ w p) ≡ a *ℤ b

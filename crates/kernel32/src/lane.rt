@@ -3,9 +3,9 @@ ghost use mathlib.Core.Path.{_≡_};
 ghost use lib.IntN.{pos, _+ℤ_, _*ℤ_};
 ghost use Rattle.integer.specs.Number.{rounded, clamp, clamps, wrap, signedBy};
 ghost use Rattle.integer.specs.Lane.{saturated, wrapped, clamped, SumIn, Toward};
-use crate::product::product;
 use common::bits32::of_bits;
 use common::bits64::to_bits;
+use common::product32::product;
 
 // Whether x has no place in 32 bits.
 pub fn overflows(x: i64) -> bool

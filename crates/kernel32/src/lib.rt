@@ -3,5 +3,4 @@ pub mod element;
 pub mod indexed;
 pub mod kernel;
 mod lane;
-mod product;
 mod segment;

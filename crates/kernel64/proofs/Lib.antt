@@ -1,3 +1,2 @@
-pub mod Columns
 pub mod TwoWords
 pub mod Sum64

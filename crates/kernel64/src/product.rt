@@ -1,10 +1,11 @@
-// Products of lanes, two words put together from products of halves: the only place that multiplies.
+// Products of lanes, two words put together from products of halves.
 ghost use mathlib.Core.Path.{_≡_};
 ghost use mathlib.Core.Bool.{cond};
 ghost use Prim.Native.Nat.{_+_, _*_, _/_, _%_, _^_, _≤_, _<_};
 ghost use lib.IntN.{pos, natAbs, negℤ, _*ℤ_};
 ghost use Rattle.integer.specs.Number.{signedBy};
 ghost use Rattle.kernel64.specs.Wide.{wideOf};
+use common::multiply::half_product;
 
 // A number of 128 bits: hi times 2^64, plus lo.
 pub struct Wide {
@@ -16,14 +17,6 @@ pub struct Wide {
 pub struct SignedWide {
     pub hi: i64,
     pub lo: u64,
-}
-
-// The product of two numbers of 32 bits. It leaves room for two carries.
-fn half_product(a: u64, b: u64) -> u64
-    requires { ⌜ (a < 2 ^ 32) × (b < 2 ^ 32) ⌝ }
-    ensures { λ r. ⌜ (r ≡ a * b) × (r ≤ 4294967295 * 4294967295) ⌝ }
-{
-    a * b
 }
 
 // The upper word of a product of two words, column by column in base 2^32. The lower word is another function: each is

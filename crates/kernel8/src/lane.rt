@@ -3,9 +3,9 @@ ghost use mathlib.Core.Path.{_≡_};
 ghost use lib.IntN.{pos, _+ℤ_, _*ℤ_};
 ghost use Rattle.integer.specs.Number.{rounded, clamp, wrap, signedBy};
 ghost use Rattle.integer.specs.Lane.{saturated, wrapped, clamped, SumIn};
-use crate::product::product;
 use common::bits8::of_bits;
 use common::bits16::to_bits;
+use common::product8::product;
 
 // x brought into 8 bits.
 pub fn narrow(x: i16) -> i8

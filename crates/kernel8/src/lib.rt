@@ -1,5 +1,4 @@
 // The kernels of 8-bit elements on segments of 16 bytes.
 pub mod kernel;
 mod lane;
-mod product;
 mod segment;

@@ -1,7 +1,7 @@
 -- The first i numbers are stored.
 -- Assumes nothing.
 use mathlib.Core.Path.{sym, _∙_}
-use Prim.Native.Nat.{_-_}
+use Prim.Native.Nat.{_-_, _*_, _%_, _^_}
 use native.Mathlib.Omega.{arith}
 use borrow.Author.Needs.{needs}
 use lib.ListN.{length}
@@ -19,10 +19,7 @@ loop-holds : tie.Need-loop-holds Inv-loop μ-loop
 loop-holds c = fours-none _ _ (c .before .before .pre)
 
 mul-put : tie.Need-mul-put Inv-loop μ-loop
-mul-put c = omega (arith, c .before .before .loop .inv .sized)
-
-mul-put-2 : tie.Need-mul-put-2 Inv-loop μ-loop
-mul-put-2 c = search needs
+mul-put c = search needs
 
 put-requires : tie.Need-put-requires Inv-loop μ-loop
 put-requires c κs = omega (arith, c .before .before .before .loop .inv .sized)
@@ -30,7 +27,8 @@ put-requires c κs = omega (arith, c .before .before .before .loop .inv .sized)
 loop-again : tie.Need-loop-again Inv-loop μ-loop
 loop-again c =
     let p = c .before .before in
-    fours-more _ _ _ _ (p .before .before .before .before .loop .inv) (omega arith) (p .put .kept .0) (p .put .ensures)
+    let s = p .before .before .before .before in
+    fours-more _ _ _ (s .loop .i * 4 % 2 ^ 64) _ (omega (arith, s .loop .inv .sized)) (s .loop .inv) (omega arith) (p .put .kept .0) (p .put .ensures)
 
 same-length : tie.Need-same-length Inv-loop μ-loop
 same-length c = c .before .loop .inv .sized ∙ sym (c .before .before .before .before .pre)
@@ -46,7 +44,6 @@ put-numbers-spec =
     μ-loop
     loop-holds
     mul-put
-    mul-put-2
     (λ c. search needs)
     put-requires
     (λ c. search needs)

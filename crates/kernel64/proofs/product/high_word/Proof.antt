@@ -2,7 +2,7 @@
 -- Assumes nothing.
 use borrow.Author.Needs.{needs}
 use lib.Dec.{lit<}
-use Rattle.kernel64.proofs.Columns.{upper-is}
+use Rattle.integer.proofs.Columns.{upper-is}
 use Rattle.kernel64.proofs.product.high_word.Statement.{statement}
 use Rattle.kernel64.proofs.product.high_word.Tie as tie
 

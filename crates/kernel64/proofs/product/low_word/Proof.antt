@@ -5,7 +5,7 @@ use Prim.Native.Nat.{ℕ, _*_, _%_}
 use native.Mathlib.Omega.{arith}
 use borrow.Author.Needs.{needs}
 use lib.Dec.{lit<}
-use Rattle.kernel64.proofs.Columns.{lower-is}
+use Rattle.integer.proofs.Columns.{lower-is}
 use Rattle.kernel64.proofs.product.low_word.Statement.{statement}
 use Rattle.kernel64.proofs.product.low_word.Tie as tie
 

@@ -1,20 +1,36 @@
--- Multiplying two numbers by their halves, column by column in any base P.
+-- Products by the digits of their factors, in any base P: what 32 bits from 16 and 64 bits from 32 both cite.
 -- Assumes nothing.
-use mathlib.Core.Path.{_≡_, refl, sym, ap, _∙_}
-use Prim.Native.Nat.{ℕ, _+_, _*_, _/_, _%_, _<_}
-use native.Mathlib.Nat.{div-add-mod', add-mul, mul-assoc, mod-lt}
+use mathlib.Core.Path.{_≡_, refl, sym, ap, ap₂, _∙_}
+use Prim.Native.Nat.{ℕ, _+_, _*_, _/_, _%_, _≤_, _<_}
+use native.Mathlib.Nat.{div-add-mod', add-mul, mul-assoc, mul-comm, mul-le-mul, mod-lt}
 use native.Mathlib.Omega.{arith}
 use lib.Arith.{digits-lt, digits-div, digits-mod}
 use Rattle.integer.proofs.Difference.{ring}
 
-columns : (P a₀ a₁ b₀ b₁ : ℕ) → (a₁ * P + a₀) * (b₁ * P + b₀) ≡ a₁ * b₁ * (P * P) + a₁ * b₀ * P + a₀ * b₁ * P + a₀ * b₀
-columns P a₀ a₁ b₀ b₁ = simp ring
+-- by the second factor's digits, and by the first's
+pub by-right : (P a b : ℕ) → a * (b % P) + a * (b / P) * P ≡ a * b
+by-right P a b =
+    expanded (b / P) (b % P) ∙ ap (λ (n : ℕ). a * n) (div-add-mod' b P)
+  where
+    expanded : (q r : ℕ) → a * r + a * q * P ≡ a * (q * P + r)
+    expanded q r = simp ring
 
--- the product by the halves' products
+pub by-left : (P a b : ℕ) → a % P * b + a / P * b * P ≡ a * b
+by-left P a b =
+    ap₂ (λ (m n : ℕ). m + n * P) (mul-comm (a % P) b) (mul-comm (a / P) b) ∙ by-right P b a ∙ mul-comm b a
+
+-- how large it is
+pub within : {r a b : ℕ} (m n : ℕ) → a ≤ m → b ≤ n → r ≡ a * b → (r ≡ a * b) × (r ≤ m * n)
+within m n h k e = (e, rw e (mul-le-mul h k))
+
+-- by both factors' digits
 by-halves : (P u v : ℕ) → u * v ≡ u / P * (v / P) * (P * P) + u / P * (v % P) * P + u % P * (v / P) * P + u % P * (v % P)
 by-halves P u v =
-    ap (λ (n : ℕ). n * v) (sym (div-add-mod' u P)) ∙ ap (λ (n : ℕ). (u / P * P + u % P) * n) (sym (div-add-mod' v P))
-    ∙ columns P (u % P) (u / P) (v % P) (v / P)
+    sym (ap₂ (λ (m n : ℕ). m + n * P) (by-right P (u % P) v) (by-right P (u / P) v) ∙ by-left P u v)
+    ∙ sorted (u % P * (v % P)) (u % P * (v / P)) (u / P * (v % P)) (u / P * (v / P))
+  where
+    sorted : (w y x z : ℕ) → w + y * P + (x + z * P) * P ≡ z * (P * P) + x * P + y * P + w
+    sorted w y x z = simp ring
 
 -- the columns with their carries
 carried : (P w x y z q₀ r₀ q r q₁ r₁ : ℕ) → w ≡ q₀ * P + r₀ → x + q₀ ≡ q * P + r → y + r ≡ q₁ * P + r₁ → (z + q + q₁) * (P * P) + (r₁ * P + r₀) ≡ z * (P * P) + x * P + y * P + w

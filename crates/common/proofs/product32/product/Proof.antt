@@ -1,0 +1,34 @@
+-- `common::product32::product` meets its contract: the factors raised, and lowered again in the product.
+-- Assumes nothing.
+use borrow.Author.Needs.{needs}
+use Rattle.integer.proofs.Widen.{wide32, fits-cast}
+use Rattle.integer.proofs.Raised.{raised-product}
+use Rattle.common.proofs.product32.product.Statement.{statement}
+use Rattle.common.proofs.product32.product.Tie as tie
+
+cast-to-bits : tie.Need-cast-to-bits
+cast-to-bits c = fits-cast wide32 (c .before .before .before .before .fits .a)
+
+returns : tie.Need-returns
+returns c =
+    let x = c .before in
+    let bits = x .before in
+    let p = bits .before in
+    let t = p .before in
+    let v = t .before in
+    let u = v .before in
+    raised-product wide32 (u .before .fits .a) (u .before .fits .b) (u .raised .ensures .0) (v .raised2 .ensures .0) (t .half-product .ensures .0) (p .wrapping-sub-u64 .ok) (x .wrapping-sub-u642 .ok) (p .wrapping-sub-u64 .ensures) (bits .to-bits .ensures) (x .wrapping-sub-u642 .ensures) (c .of-bits .ok) (c .of-bits .ensures)
+
+pub product-spec : {M : Type 1} → statement M
+product-spec =
+    tie.close
+    (tie.spec
+    (λ c κs. search needs)
+    (λ c κs. search needs)
+    (λ c κs. search needs)
+    (λ c κs. search needs)
+    cast-to-bits
+    (λ c κs. search needs)
+    (λ c κs. search needs)
+    (λ c κs. search needs)
+    returns)
