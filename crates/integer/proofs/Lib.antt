@@ -9,4 +9,4 @@ pub mod Narrow
 pub mod Read
 pub mod Ends
 pub mod Columns
-pub mod Raised
+pub mod Biased

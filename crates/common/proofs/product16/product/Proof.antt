@@ -1,8 +1,8 @@
--- `common::product16::product` meets its contract: the factors raised, and lowered again in the product.
+-- `common::product16::product` meets its contract: of biased factors, and the bias taken off again.
 -- Assumes nothing.
 use borrow.Author.Needs.{needs}
 use Rattle.integer.proofs.Widen.{wide16, fits-cast}
-use Rattle.integer.proofs.Raised.{raised-product}
+use Rattle.integer.proofs.Biased.{biased-product}
 use Rattle.common.proofs.product16.product.Statement.{statement}
 use Rattle.common.proofs.product16.product.Tie as tie
 
@@ -17,7 +17,7 @@ returns c =
     let t = p .before in
     let v = t .before in
     let u = v .before in
-    raised-product wide16 (u .before .fits .a) (u .before .fits .b) (u .raised .ensures .0) (v .raised2 .ensures .0) (t .multiply .ensures) (p .wrapping-sub-u32 .ok) (x .wrapping-sub-u322 .ok) (p .wrapping-sub-u32 .ensures) (bits .to-bits .ensures) (x .wrapping-sub-u322 .ensures) (c .of-bits .ok) (c .of-bits .ensures)
+    biased-product wide16 (u .before .fits .a) (u .before .fits .b) (u .biased .ensures .0) (v .biased2 .ensures .0) (t .multiply .ensures) (p .wrapping-sub-u32 .ok) (x .wrapping-sub-u322 .ok) (p .wrapping-sub-u32 .ensures) (bits .to-bits .ensures) (x .wrapping-sub-u322 .ensures) (c .of-bits .ok) (c .of-bits .ensures)
 
 pub product-spec : {M : Type 1} → statement M
 product-spec =

@@ -1,8 +1,8 @@
--- `common::product32::product` meets its contract: the factors raised, and lowered again in the product.
+-- `common::product32::product` meets its contract: of biased factors, and the bias taken off again.
 -- Assumes nothing.
 use borrow.Author.Needs.{needs}
 use Rattle.integer.proofs.Widen.{wide32, fits-cast}
-use Rattle.integer.proofs.Raised.{raised-product}
+use Rattle.integer.proofs.Biased.{biased-product}
 use Rattle.common.proofs.product32.product.Statement.{statement}
 use Rattle.common.proofs.product32.product.Tie as tie
 
@@ -17,7 +17,7 @@ returns c =
     let t = p .before in
     let v = t .before in
     let u = v .before in
-    raised-product wide32 (u .before .fits .a) (u .before .fits .b) (u .raised .ensures .0) (v .raised2 .ensures .0) (t .half-product .ensures .0) (p .wrapping-sub-u64 .ok) (x .wrapping-sub-u642 .ok) (p .wrapping-sub-u64 .ensures) (bits .to-bits .ensures) (x .wrapping-sub-u642 .ensures) (c .of-bits .ok) (c .of-bits .ensures)
+    biased-product wide32 (u .before .fits .a) (u .before .fits .b) (u .biased .ensures .0) (v .biased2 .ensures .0) (t .half-product .ensures .0) (p .wrapping-sub-u64 .ok) (x .wrapping-sub-u642 .ok) (p .wrapping-sub-u64 .ensures) (bits .to-bits .ensures) (x .wrapping-sub-u642 .ensures) (c .of-bits .ok) (c .of-bits .ensures)
 
 pub product-spec : {M : Type 1} → statement M
 product-spec =
