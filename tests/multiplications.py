@@ -34,7 +34,7 @@ TOKEN = re.compile(
     |(?P<mark>'\w+|\*=|.)""",
     re.DOTALL | re.VERBOSE,
 )
-CLAUSE = re.compile(r"(?:requires|ensures|ghost)\s+(?:\w+\s*)?\{")
+CLAUSE = re.compile(r"(?:requires|ensures|ghost)\b\s*(?:\w+\s*)?\{")
 GHOST_USE = re.compile(r"ghost\s+use\b[^;]*;")
 # Words behind which an operand is still to come.
 OPENING = {"else", "if", "in", "let", "match", "mut", "return", "while"}
@@ -188,10 +188,11 @@ def lowered(crate):
 
 def check_archive():
     """The crates of the archive: those that have the function have its one multiplication, and one of them does."""
-    all_of_them = [lowered(crate) for crate in re.findall(r"^(capi\w*):", (ROOT / "crates.txt").read_text(), re.MULTILINE)]
-    for mir in all_of_them:
+    crates = re.findall(r"^(capi\w*):", (ROOT / "crates.txt").read_text(), re.MULTILINE)
+    printed = [lowered(crate) for crate in crates]
+    for mir in printed:
         check_lowered(mir)
-    if not any(LOWERED in mir for mir in all_of_them):
+    if not any(LOWERED in mir for mir in printed):
         raise Fault(f"{LOWERED} is in no crate of the archive")
 
 
