@@ -10,6 +10,9 @@
  *   bench stream ROUNDS              a line for each size of pieces of a trace: that size, the trace's bytes, the
  *                                    calls, and the nanoseconds of all calls of the archive and of plain C;
  *                                    last the nanoseconds of two copies of a state
+ *   bench lines ROUNDS               the nanoseconds of writing a line, of reading one, and of reading a text
+ *                                    that is none, a line each
+ *   bench text                       the lines of the mixed program
  *
  * A program has 4,096 words of one row, with every rotation and index. The registers of a word are
  * drawn anew and differ from one another: compiled C loops fall back to slow code where they coincide. */
@@ -296,6 +299,66 @@ static void streams(int rounds)
     printf("%.0f\n", 1e9 * copied);
 }
 
+/* ---- lines: those of the mixed program, and each with a byte that no line has, at a place at random */
+
+static uint32_t fields[WORDS][KOB_FIELDS];
+static uint8_t lines[2][WORDS][KOB_LINE_MAX];
+static size_t lengths_of[WORDS];
+
+static void make_lines(void)
+{
+    static uint32_t words[WORDS];
+    program(MIXED, words);
+    for (int k = 0; k < WORDS; k++) {
+        uint64_t written = kob_decode(words[k], fields[k], KOB_FIELDS);
+        if (written == KOB_DONE)
+            written = kob_line_write(fields[k], KOB_FIELDS, lines[0][k], KOB_LINE_MAX);
+        if ((uint32_t)written != KOB_DONE) {
+            fprintf(stderr, "bench: a word has no line\n");
+            exit(1);
+        }
+        lengths_of[k] = written >> 32;
+        memcpy(lines[1][k], lines[0][k], KOB_LINE_MAX);
+        lines[1][k][next() % lengths_of[k]] = '*';
+    }
+}
+
+/* The low halves of the answers of one round, all in one: what is 0 for each is 0. */
+static uint32_t line_round(int what)
+{
+    static uint8_t out[KOB_LINE_MAX];
+    static uint32_t read[KOB_FIELDS];
+    uint32_t others = 0;
+    for (int k = 0; k < WORDS; k++)
+        if (what == 0)
+            others |= kob_line_write(fields[k], KOB_FIELDS, out, KOB_LINE_MAX);
+        else
+            others |= (uint32_t)kob_line_read(lines[what - 1][k], lengths_of[k], read, KOB_FIELDS) ^
+                      (what == 1 ? KOB_DONE : KOB_NOT_A_LINE);
+    return others;
+}
+
+static void line_times(int rounds)
+{
+    static const char *const names[] = {"written", "read", "no line"};
+    double best[3] = {1e9, 1e9, 1e9};
+    make_lines();
+    for (int turn = 0; turn < 30 * rounds; turn++) {
+        struct timespec a, b;
+        clock_gettime(CLOCK_MONOTONIC, &a);
+        uint32_t others = line_round(turn % 3);
+        clock_gettime(CLOCK_MONOTONIC, &b);
+        double taken = b.tv_sec - a.tv_sec + 1e-9 * (b.tv_nsec - a.tv_nsec);
+        best[turn % 3] = taken < best[turn % 3] ? taken : best[turn % 3];
+        if (others) {
+            fprintf(stderr, "bench: a line was answered otherwise than before\n");
+            exit(1);
+        }
+    }
+    for (int k = 0; k < 3; k++)
+        printf("%s\t%.3f\n", names[k], 1e9 * best[k] / WORDS);
+}
+
 int main(int count, char **given)
 {
     for (size_t k = 0; k < sizeof fresh; k++)
@@ -317,9 +380,15 @@ int main(int count, char **given)
         replays(atoi(given[2]));
     } else if (count == 3 && !strcmp(what, "stream")) {
         streams(atoi(given[2]));
+    } else if (count == 3 && !strcmp(what, "lines")) {
+        line_times(atoi(given[2]));
+    } else if (count == 2 && !strcmp(what, "text")) {
+        make_lines();
+        for (int k = 0; k < WORDS; k++)
+            printf("%.*s\n", (int)lengths_of[k], (const char *)lines[0][k]);
     } else {
         fprintf(stderr, "usage: bench time ROUNDS LENGTH... | count SIDE ROW LENGTH | rows | words ROW | replay ROUNDS"
-                        " | stream ROUNDS\n");
+                        " | stream ROUNDS | lines ROUNDS | text\n");
         return 2;
     }
     return 0;

@@ -30,9 +30,9 @@ extern "C" {
 #define KOB_CAST(type, value) ((type)(value))
 #endif
 
-#define KOB_VERSION "0.4.0"
+#define KOB_VERSION "0.5.0"
 #define KOB_VERSION_MAJOR 0
-#define KOB_VERSION_MINOR 4
+#define KOB_VERSION_MINOR 5
 #define KOB_VERSION_PATCH 0
 
 /* ---- limits */
@@ -62,6 +62,9 @@ extern "C" {
 #define KOB_TRACE_MAX 65536
 #define KOB_CASES_MAX 1024
 
+/* The bytes of the longest line. */
+#define KOB_LINE_MAX 38
+
 /* The bytes of a stream's state. */
 #define KOB_STREAM_SIZE 20544
 
@@ -79,6 +82,8 @@ extern "C" {
 #define KOB_REGISTER_LIMIT 9
 #define KOB_INDEX_LIMIT 10
 #define KOB_NOT_POWER_OF_TWO 11 /* but a multiple of 128 from 128 to 2,048 */
+#define KOB_NOT_A_LINE 12
+#define KOB_NO_LINE_ROOM 13
 #define KOB_BAD_CONTENTS 15
 #define KOB_BAD_TOTAL 16
 #define KOB_BAD_FLAG 17 /* a verdict, not a refusal */
@@ -103,6 +108,8 @@ static inline const char *kob_text(unsigned number) {
     case KOB_REGISTER_LIMIT: return "register field above its limit";
     case KOB_INDEX_LIMIT: return "index above its limit";
     case KOB_NOT_POWER_OF_TWO: return "length not a power of two";
+    case KOB_NOT_A_LINE: return "not a line";
+    case KOB_NO_LINE_ROOM: return "room shorter than the line";
     case KOB_BAD_CONTENTS: return "contents cut short or not allowed";
     case KOB_BAD_TOTAL: return "trace above 64 KiB or not as long as its contents say";
     case KOB_BAD_FLAG: return "flag neither 0 nor 1";
@@ -208,6 +215,60 @@ uint64_t kob_encode(const uint32_t *fields, size_t length);
  * is 0 on a refusal. */
 static inline uint32_t kob_encode_number(uint64_t answer) { return KOB_CAST(uint32_t, answer & 0xFFFFFFFF); }
 static inline uint32_t kob_encode_word(uint64_t answer) { return KOB_CAST(uint32_t, answer >> 32); }
+
+/* ---- lines */
+
+/* The line of an operation is its assembler text: upper case, one space behind the
+ * mnemonic, one comma and one space between operands, decimal numbers with no leading
+ * zero, and no line end. Each operation that has a word has one line, of at most
+ * KOB_LINE_MAX bytes, and no two have the same. Such as
+ *   SQCADD Z0.B, Z0.B, Z1.B, #90
+ *   SQRDCMLAH Z0.H, Z1.H, Z2.H[3], #90
+ *   SQRDMLSH V0.4H, V1.4H, V2.H[7]
+ *   SQRDMLSH H0, H1, V2.H[7] */
+
+/*
+ * Writes the line of the operation that the fields name to the start of `out`; what
+ * stands behind it is left. No line end and no zero byte is written.
+ *
+ * The number is the first of
+ *   KOB_BAD_FIELDS: the length is not KOB_FIELDS;
+ *   KOB_NO_OPERATION, KOB_NO_SIZE, KOB_NO_ROTATION, KOB_REGISTER_LIMIT,
+ *     KOB_INDEX_LIMIT: as kob_encode gives it;
+ *   KOB_NO_LINE_ROOM: `room` is less than the line's length. KOB_LINE_MAX is enough
+ *     for every line.
+ * With these nothing is written. Or KOB_DONE.
+ *
+ * What is written, kob_line_read reads as the same fields.
+ */
+uint64_t kob_line_write(const uint32_t *fields, size_t length, uint8_t *out, size_t room);
+
+/* The answer's parts: the number in the low half, the line's length in the high half,
+ * which is 0 on a refusal. */
+static inline uint32_t kob_line_write_number(uint64_t answer) { return KOB_CAST(uint32_t, answer & 0xFFFFFFFF); }
+static inline size_t kob_line_write_length(uint64_t answer) { return answer >> 32; }
+
+/*
+ * Reads a text that is to be one whole line, into `fields`, whose length is to be
+ * KOB_FIELDS.
+ *
+ * KOB_DONE: the text is the line of the operation whose eight fields are now written.
+ * Else nothing is written:
+ *   KOB_BAD_FIELDS: fields_length is not KOB_FIELDS;
+ *   KOB_NOT_A_LINE: no line is equal to the text. The reach is the greatest k for
+ *     which the first k bytes of the text are the first k bytes of some line. Where
+ *     it is `length`, a line was cut off; else the byte at that place, counted from
+ *     0, is the first that no line has there. Bytes above 127, zero bytes and line
+ *     ends belong to no line. The empty text has the reach 0.
+ *
+ * The fields that it gives, kob_line_write writes as the same line.
+ */
+uint64_t kob_line_read(const uint8_t *line, size_t length, uint32_t *fields, size_t fields_length);
+
+/* The answer's parts: the number in the low half, the reach (at most KOB_LINE_MAX) in
+ * the high half, which is 0 but with KOB_NOT_A_LINE. */
+static inline uint32_t kob_line_read_number(uint64_t answer) { return KOB_CAST(uint32_t, answer & 0xFFFFFFFF); }
+static inline size_t kob_line_read_reach(uint64_t answer) { return answer >> 32; }
 
 /* ---- the listing */
 

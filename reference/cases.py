@@ -1,6 +1,6 @@
 #!/usr/bin/env python3
-"""Writes the stored cases of the programs cases, codec_cases, kernel_cases, replay_cases, list, execute and
-replay_files, and what they must print.
+"""Writes the stored cases of the programs cases, codec_cases, kernel_cases, line_cases, replay_cases, list,
+assemble, disassemble, execute and replay_files, and what they must print.
 
     cases.py [ROOT]            write them below ROOT (default: the repository that has this file)
     cases.py --check [ROOT]    fail if what is stored is not what would be written
@@ -16,7 +16,9 @@ from pathlib import Path
 from random import Random
 
 sys.dont_write_bytecode = True  # the repository stays as it was
+import asm_cases
 import kernel_cases
+import line_cases
 import model
 import replay_cases
 import report
@@ -173,6 +175,7 @@ def files():
     cases += [encode_case(op) for op in dict.fromkeys(operations())]
     yield from stored("codec_cases", cases)
     yield from stored("kernel_cases", list(dict.fromkeys(kernel_cases.cases(Source(4)))))
+    yield from stored("line_cases", list(dict.fromkeys(line_cases.cases(Source(8)))))
     yield from stored("cases", list(dict.fromkeys(run_cases.cases(Source(5)))))
     yield from stored("replay_cases", list(replay_cases.cases(Source(6), Source(7))))  # a put may come twice
 
@@ -181,6 +184,8 @@ def files():
     data = struct.pack(f"<{len(listed)}I", *listed) + b"\x00\xd8\x01"
     yield "crates/list/stdin", data
     yield "crates/list/stdout", model.listing(data)
+
+    yield from asm_cases.files(Source(9))
 
     text = (ROOT / "crates/execute/stdin").read_bytes()  # written by hand
     yield "crates/execute/stdin", text

@@ -9,6 +9,7 @@ Written from docs/execute.md alone, over the model of execution.
 import sys
 
 sys.dont_write_bytecode = True  # the repository stays as it was
+import assembly
 import execution
 from execution import OUTSIDE, RESERVED
 
@@ -25,9 +26,11 @@ WIDTH = {"b": 1, "h": 2, "s": 4, "d": 8}
 
 
 def statements(text):
-    """The words of each line that has any."""
+    """The words of each line that has any; an instruction is one of them."""
     for line in text.decode("ascii").split("\n"):
         words = line.split("#")[0].split()
+        if words[:1] == ["line"]:
+            words[1:] = [line.split("line", 1)[1]]
         if words:
             yield words
 
@@ -60,6 +63,8 @@ def lines(text):
             size = rest[0]
         elif name == "word":
             words.append(int(rest[0], 16))
+        elif name == "line":
+            words.append(assembly.read_line(rest[0].encode("ascii")))
         else:
             given[int(rest[0])] = bytes.fromhex("".join(rest[1:]))
     width = length // 8

@@ -55,6 +55,10 @@ run, no file: 2 file not 4 x L bytes
 run, neither: 1 length not a multiple of 128 from 128 to 2,048
 decode, no fields: 32 fields not 8 numbers, or state not 20,544 bytes
 encode, no fields: 32 fields not 8 numbers, or state not 20,544 bytes
+write, no fields: 32 fields not 8 numbers, or state not 20,544 bytes
+write, no room: 13 room shorter than the line
+read, no text: 12 not a line
+read, no fields: 32 fields not 8 numbers, or state not 20,544 bytes
 list, no bytes: TOTAL 0
 list, no room: refused
 replay, no trace: 15 contents cut short or not allowed
@@ -74,6 +78,10 @@ for standard in c++11 c++20; do
     example "vectors-g++-$standard" "$vectors" g++ $stricter $from
     command -v clang++ >/dev/null && example "vectors-clang++-$standard" "$vectors" clang++ $everything $from
 done
+
+input=examples/lines.txt
+thrice lines "$(shown docs/c.md "./lines < $input")"
+input=/dev/null
 
 arguments=(examples/traces/differ.trace)
 thrice replay "$(shown docs/c.md "./replay ${arguments[*]}")"

@@ -15,6 +15,8 @@ from pathlib import Path
 ROOT = Path(__file__).resolve().parent.parent
 sys.dont_write_bytecode = True  # the repository stays as it was
 sys.path.insert(0, str(ROOT / "reference"))
+import assembly
+import lines
 import report
 from scenario import Fault, run_all
 
@@ -50,6 +52,12 @@ def says(text, line, what):
 
 def prints(text, *lines):
     expect(run(data=text), b"".join(line + b"\n" for line in lines), b"")
+
+
+def says_of(line, behind):
+    """A wrong instruction: as the model of assembly texts has it, where the statement's name ends at a place."""
+    wanted = b"kob run: line 3%s\n" % assembly.read_line(line, behind).encode("ascii")
+    expect(run(data=b"length 128\n# a\n" + line + b"\nunknown\n"), b"", wanted)
 
 
 def empty_run(text, qc=0):
@@ -140,6 +148,7 @@ def refused():
     words = b"length 128\nqc 1\n" + b"word 0\n" * 4097
     answer = (b"answer 3 more than 4,096 words", b"words done 0", b"qc 1")
     yield "4097 words", prints, words, *answer
+    yield "4098 words, the last a line", says, words + b"line .inst 0x0", 4100, b"more than 4097 words"
     yield "4098 words", says, words + b"word 0", 4100, b"more than 4097 words"
     yield "4097 words at an illegal length", illegal, words.replace(b"128", b"100"), 1
     yield "4097 words at 384", no_power, words.replace(b"128", b"384"), 1
@@ -149,13 +158,15 @@ def wrong():
     missing = b"the text ends with no length"
     yield "an empty text", says, b"", 1, missing
     yield "comments alone", says, b"# a\n\n# b\n", 3, missing
-    for line in (b"word 0", b"qc 1", b"show b", b"z 0 00"):
+    for line in (b"word 0", b"line .inst 0x0", b"qc 1", b"show b", b"z 0 00"):
         yield f"{line} before the length", says, b"\n" + line, 2, b"the length must come first"
     for line in (b"word", b"z 1 0g", b"nonsense"):
         wanted = b"unknown statement" if line == b"nonsense" else b"the length must come first"
         yield f"{line} at first", says, line, 1, wanted
     after = {
-        b"unknown statement": (b"lengths 1", b"wor 0", b"words 0", b"z0 00", b"Z 0 00", b"128", b"\0", b"\xff"),
+        b"unknown statement": (
+            b"lengths 1", b"lines CADD", b"line//", b"wor 0", b"words 0", b"z0 00", b"Z 0 00", b"128", b"\0", b"\xff",
+        ),  # fmt: skip
         b"a second length": (b"length 128", b"length x"),
         b"a number is missing": (b"qc", b"z", b"z # 1", b"show z", b"show z # 1"),
         b"not a decimal number": (b"qc x", b"qc -1", b"z a", b"z 1x", b"z 0x1", b"show zero"),
@@ -166,11 +177,18 @@ def wrong():
         b"a digit that is not hexadecimal": (b"word 12g4", b"word -1", b"word 0y1", b"z 1 0g", b"z 1 g0", b"z 1 00 0x"),
         b"a register above 31": (b"z 32", b"z 99999999999999999999 00", b"show z32"),
         b"a byte of one digit": (b"z 1 0", b"z 1 00 1 00", b"z 1 001#"),
+        b"an instruction is missing": (b"line", b"line \t\r", b"line // CADD"),
         b"more than the statement takes": (b"qc 1 1", b"show b b", b"show z1 z2", b"word 0 0"),
     }
-    for what, lines in after.items():
-        for line in lines:
+    for what, given in after.items():
+        for line in given:
             yield f"{line}", says, b"length 128\n# a\n" + line + b"\nunknown\n", 3, what
+    for text, _ in assembly.WRONG:
+        for before in (b"line ", b" \t line\t  "):
+            yield f"{before + text}", says_of, before + text, len(before)
+            yield f"{before + text} and more", says_of, before + text + b" // x\r", len(before)
+    for text in (b"line#", b"line # CADD", b"line" + b"\t" * 5000 + b"CADD"):
+        yield f"{text[:12]}", says_of, text, 4
     for line, what in (
         (b"length", b"a number is missing"),
         (b"length 128 1", b"more than the statement takes"),
@@ -208,6 +226,12 @@ def shown():
         yield f"lanes {size}", as_modelled, text
         least = b"length 128\nshow %s\nz 3 %s80\nword %08x\n" % (size, b"00" * (width - 1), word)
         yield f"the least lane {size}", as_modelled, least
+    # Instructions: each form of the pages, with what may stand around it.
+    wide = b"length 256\nshow h\n" + b"".join(b"z %d %s\n" % (n, b"8081" * (n + 1)) for n in range(8))
+    for line, _ in lines.BY_HAND:
+        for before, after in ((b"line ", b""), (b"\tline \t ", b" \t// #90"), (b"line ", b"//\r"), (b"line\t", b"\r")):
+            yield f"{before + line + after}", as_modelled, wide + before + line + after + b"\n"
+    yield "a word of each kind", as_modelled, wide + b"line .inst 0x4501d820 // a\nword 4501D820 # b\nline .inst 0x2F00F000"
     # Registers asked for: unchanged, changed, at a length that is refused, with lanes that do not fill it.
     for length in (128, 2048, 0, 8, 24, 192, 384):
         given = b"length %d\nz 7 %s\n" % (length, b"01FF02"[: length // 4])

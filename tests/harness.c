@@ -1,12 +1,13 @@
 /* The C half of the differential harness (harness.py builds and starts it).
  *
- *   harness fuzz SEED SECONDS   the archive against bench/plain.c; demand 3 and the states of streams on the
- *                               archive alone
+ *   harness fuzz SEED SECONDS   the archive against bench/plain.c; demand 3, the states of streams, and lines on
+ *                               the archive alone
  *   harness words               all 2^32 words, decoded by both
+ *   harness lines               every line, given on standard output, and read back
  *   harness answer              answers the calls on standard input, for the comparison with the
  *                               independent model
  *
- * Differences are told on standard error. 'fuzz' and 'words' end with 'N cases, M differences'. */
+ * Differences are told on standard error. All but 'answer' end with 'N cases, M differences'. */
 
 #define _DEFAULT_SOURCE
 #include <inttypes.h>
@@ -653,6 +654,141 @@ static void segment_case(void)
     }
 }
 
+/* ---- lines, on the archive alone */
+
+enum { FIELDS = 8, MOST_TEXT = 4096 }; /* bytes of a text, and of what is lent for fields */
+
+static struct area line_area, field_area;
+
+static void differ_line(const char *what, const uint32_t *f, const uint8_t *text, size_t length)
+{
+    if (differences++ >= TOLD)
+        return;
+    fprintf(stderr, "harness: %s, case %" PRIu64 ": '%.*s', fields", what, cases, (int)length, (const char *)text);
+    for (int k = 0; k < FIELDS; k++)
+        fprintf(stderr, " %" PRIu32, f[k]);
+    fprintf(stderr, "\n");
+}
+
+/* The highest value of a field, where those before it are given. */
+static uint32_t most(const uint32_t f[FIELDS], int field)
+{
+    bool add = f[0] < 2, indexed = f[0] == 3 || f[0] == 5, element = f[0] > 5, h = f[1] == 1;
+    switch (field) {
+    case 0: return 7;
+    case 1: return 3;
+    case 2: return element ? 2 : 0;
+    case 3: return element ? 0 : 3;
+    case 5: return add ? 0 : 31;
+    case 6: return indexed ? (h ? 7 : 15) : element && h ? 15 : 31;
+    case 7: return indexed ? (h ? 3 : 1) : element ? (h ? 7 : 3) : 0;
+    default: return 31;
+    }
+}
+
+/* Whether the family has the size, or the rotation. */
+static bool has(const uint32_t f[FIELDS], int field)
+{
+    bool narrow = f[0] == 3 || f[0] > 4;
+    return field == 1 ? !narrow || f[1] == 1 || f[1] == 2 : field == 3 ? f[0] > 1 || f[3] % 2 == 1 : true;
+}
+
+/* The last bytes of an area, so that the next one cannot be touched. */
+static void *last(struct area a, size_t bytes)
+{
+    if (bytes > a.size)
+        exit(2);
+    return a.start + a.size - bytes;
+}
+
+/* A line: a room with a byte less is refused, one of its length is enough, and it is read as the same fields. */
+static void round_trip(const uint32_t f[FIELDS])
+{
+    uint8_t text[KOB_LINE_MAX];
+    uint32_t found[FIELDS] = {0};
+    uint64_t written = kob_line_write(f, FIELDS, text, sizeof text);
+    size_t length = lesser(written >> 32, sizeof text);
+    uint8_t *lent = last(line_area, length);
+    bool refused = length > 0 && kob_line_write(f, FIELDS, lent, length - 1) == KOB_NO_LINE_ROOM && *lent == PATTERN;
+    bool same = kob_line_write(f, FIELDS, lent, length) == written && !memcmp(lent, text, length);
+    bool read = kob_line_read(lent, length, found, FIELDS) == KOB_DONE && !memcmp(found, f, sizeof found);
+    cases++;
+    if ((uint32_t)written != KOB_DONE || !refused || !same || !read)
+        differ_line("written and read back", f, text, length);
+    memset(lent, PATTERN, length);
+    fwrite(text, 1, length, stdout);
+    putchar('\n');
+}
+
+/* Every operation that can be written, in the order of its fields. */
+static void every_line(uint32_t f[FIELDS], int field)
+{
+    if (field == FIELDS) {
+        round_trip(f);
+        return;
+    }
+    for (f[field] = 0; f[field] <= most(f, field); f[field]++)
+        if (has(f, field))
+            every_line(f, field + 1);
+}
+
+static void any_operation(uint32_t f[FIELDS])
+{
+    for (int k = 0; k < FIELDS; k++)
+        do
+            f[k] = below(most(f, k) + 1);
+        while (!has(f, k));
+}
+
+/* A text as it is; or bytes changed, put in, left out or added, or its end cut off. Its length. */
+static size_t damage_text(uint8_t *text, size_t length)
+{
+    static const uint8_t some[] = "0123456789,. #[]ABCDHLMQRSVZ\n";
+    while (length > 1 && one_in(2)) {
+        size_t at = below((uint32_t)length);
+        uint8_t byte = one_in(4) ? next() >> 56 : some[below(sizeof some)];
+        switch (below(6)) {
+        case 0: length = at + 1; break;
+        case 1: memmove(text + at, text + at + 1, --length - at); break;
+        case 2: memmove(text + at + 1, text + at, length++ - at); text[at] = byte; break;
+        case 3: text[length++] = byte; break;
+        default: text[at] = byte;
+        }
+    }
+    return length;
+}
+
+/* What is read is written again as it was. What is no line has a beginning of the length that is told, and no
+ * longer one. */
+static void line_case(void)
+{
+    uint32_t f[FIELDS] = {0};
+    uint8_t text[MOST_TEXT], again[KOB_LINE_MAX];
+    any_operation(f);
+    size_t length = damage_text(text, kob_line_write(f, FIELDS, text, KOB_LINE_MAX) >> 32);
+    uint8_t *lent = lend(line_area, length, 1), *fields = lend(field_area, 4 * FIELDS, 4);
+    memcpy(lent, text, length);
+    uint64_t found = kob_line_read(lent, length, (uint32_t *)fields, FIELDS);
+    size_t shared = found >> 32;
+    bool right = false, clean = !memcmp(lent, text, length);
+    cases++;
+    memcpy(f, fields, sizeof f);
+    if (found == KOB_DONE) {
+        uint64_t written = kob_line_write(f, FIELDS, again, sizeof again);
+        right = written == (uint64_t)length << 32 && !memcmp(again, text, length);
+    } else if ((uint32_t)found == KOB_NOT_A_LINE && shared <= length) {
+        uint64_t begun = kob_line_read(lent, shared, f, FIELDS);
+        right = begun == KOB_DONE || begun == found;
+        if (shared < length)
+            right &= kob_line_read(lent, shared + 1, f, FIELDS) == found;
+        clean &= kept(field_area, fields, 0);
+    }
+    clean &= kept(line_area, lent, length);
+    clean &= kept(field_area, fields, 4 * FIELDS);
+    if (!right || !clean)
+        differ_line(right ? "bytes outside of a line or its fields" : "read as a line", f, text, length);
+}
+
 static double now(void)
 {
     struct timespec t;
@@ -667,9 +803,11 @@ static void fuzz(double seconds)
     trace_area = area(ROOM);
     long_area = area(LONG_ROOM);
     state_area = area(KOB_STREAM_SIZE);
+    line_area = area(MOST_TEXT);
+    field_area = area(MOST_TEXT);
     alarm((unsigned)seconds + 60); /* a call that does not return ends this program */
     double end = now() + seconds;
-    uint64_t runs = 0, traces = 0, streams = 0, lengths = 0, segments = 0, calls = 0;
+    uint64_t runs = 0, traces = 0, streams = 0, lengths = 0, segments = 0, read = 0, calls = 0;
     for (uint64_t round = 0; now() < end; round++) {
         uint64_t start = cases;
         for (int k = 0; k < 16; k++)
@@ -687,6 +825,9 @@ static void fuzz(double seconds)
         lengths += cases - start, start = cases;
         segment_case();
         segments += cases - start, start = cases;
+        for (int k = 0; k < 16; k++)
+            line_case();
+        read += cases - start, start = cases;
         for (int k = 0; k < 16; k++) {
             decode_case(good_word(ROWS));
             decode_case(bad_word());
@@ -695,8 +836,8 @@ static void fuzz(double seconds)
         calls += cases - start;
     }
     fprintf(stderr, "harness: %" PRIu64 " runs, %" PRIu64 " cases of traces and %" PRIu64 " calls of streams"
-            " against plain C; %" PRIu64 " pairs of lengths; %" PRIu64 " segments alone; %" PRIu64
-            " other calls\n", runs, traces, streams, lengths, segments, calls);
+            " against plain C; %" PRIu64 " pairs of lengths; %" PRIu64 " segments alone; %" PRIu64 " texts read; %"
+            PRIu64 " other calls\n", runs, traces, streams, lengths, segments, read, calls);
 }
 
 /* ---- answers for the model. Numbers are little-endian, as this machine's must be. */
@@ -804,8 +945,40 @@ static void answer_list(const uint64_t n[4]) /* bytes, room for text */
     free(out);
 }
 
+/* Of the two calls on lines the last byte says whether nothing outside of the lent parts was written. */
+
+static void answer_line_write(const uint64_t n[4]) /* the fields' count, the room */
+{
+    uint32_t *fields = last(field_area, 4 * n[0]);
+    uint8_t *out = last(line_area, n[1]);
+    take(fields, 4 * n[0]);
+    uint64_t found = kob_line_write(fields, n[0], out, n[1]);
+    give(&found, 8);
+    give(out, n[1]);
+    give(fields, 4 * n[0]);
+    bool clean = kept(field_area, (uint8_t *)fields, 4 * n[0]);
+    clean &= kept(line_area, out, n[1]);
+    give(&clean, 1);
+}
+
+static void answer_line_read(const uint64_t n[4]) /* bytes, the fields' count */
+{
+    uint8_t *text = last(line_area, n[0]);
+    uint32_t *fields = last(field_area, 4 * n[1]);
+    take(text, n[0]);
+    uint64_t found = kob_line_read(text, n[0], fields, n[1]);
+    give(&found, 8);
+    give(fields, 4 * n[1]);
+    give(text, n[0]);
+    bool clean = kept(field_area, (uint8_t *)fields, 4 * n[1]);
+    clean &= kept(line_area, text, n[0]);
+    give(&clean, 1);
+}
+
 static void answer(void)
 {
+    line_area = area(MOST_TEXT);
+    field_area = area(MOST_TEXT);
     for (int kind; (kind = getchar()) != EOF;) {
         uint64_t n[4];
         take(n, sizeof n);
@@ -817,6 +990,8 @@ static void answer(void)
         case 'e': answer_encode(n); break;
         case 'r': answer_register(n); break;
         case 'l': answer_list(n); break;
+        case 'w': answer_line_write(n); break;
+        case 'i': answer_line_read(n); break;
         default:
             fprintf(stderr, "harness: no call of kind %d\n", kind);
             exit(2);
@@ -838,8 +1013,12 @@ int main(int count, char **given)
         do
             decode_case(word);
         while (++word);
+    } else if (count == 2 && !strcmp(given[1], "lines")) {
+        uint32_t fields[FIELDS] = {0};
+        line_area = area(MOST_TEXT);
+        every_line(fields, 0);
     } else {
-        fprintf(stderr, "usage: harness fuzz SEED SECONDS | harness words | harness answer\n");
+        fprintf(stderr, "usage: harness fuzz SEED SECONDS | harness words | harness lines | harness answer\n");
         return 2;
     }
     printf("%" PRIu64 " cases, %" PRIu64 " differences\n", cases, differences);

@@ -4,9 +4,10 @@
     tests/harness.py [--seconds S] [--seed N] [--words] [--archive FILE] [--include FOLDER]
 
 For S seconds (default 60), side by side: tests/harness.c holds the archive against bench/plain.c at
-full speed, and demand 3 and the states of streams against the archive itself; this script asks the
+full speed, and demand 3, the states of streams and lines against the archive itself; this script asks the
 archive for answers and holds them against the independent model. All cases are seeded, valid and
-damaged. --words also decodes every one of the 2^32 words, which takes a minute or so more.
+damaged. Behind them every line that there is, written, read back and held against the model's. --words
+also decodes every one of the 2^32 words, which takes a minute or so more.
 
 The archive is target/staticlib/libkobbeskuim.a unless told otherwise. The last line is
 'harness: N cases, M differences'; the exit status is 0 only if M is 0.
@@ -26,6 +27,8 @@ sys.path.insert(0, str(ROOT / "reference"))
 import execution
 import kernel_cases
 import lanes
+import line_cases
+import lines
 import model
 import replay
 import run_cases
@@ -41,6 +44,7 @@ BATCH = 100  # cases for one start of the driver
 NUMBERS = (0, 1, 2, 3, 4, 7, 8, 15, 16, 31, 32, 255, 256, 2**31, 2**32 - 1)  # either side of each limit
 PATTERN = 0xA5  # what a lent buffer holds before the call
 END = 2**32 - 1  # among the sizes of a stream's pieces
+KEPT = b"\1"  # nothing outside of the lent parts was written
 
 # Numbers of the C interface that document 01 has none for.
 BAD_PART, NO_OPERATION, NO_ROOM = 32, 33, 2**64 - 1
@@ -120,6 +124,31 @@ def encode_case(fields):
     return call(b"e", len(fields), data=packed(*fields)), packed(number, word)
 
 
+def line_write_case(fields, room):
+    length, text = 0, b""
+    if len(fields) != 8:
+        number = BAD_PART
+    elif not names_operation(fields):
+        number = NO_OPERATION
+    else:
+        number, length, text = lines.write(Operation(*fields), room)
+    left = text + bytes([PATTERN] * (room - length))
+    asked = call(b"w", len(fields), room, data=packed(*fields))
+    return asked, struct.pack("<Q", number | length << 32) + left + packed(*fields) + KEPT
+
+
+def line_read_case(text, count):
+    number, shared, left = BAD_PART, 0, bytes([PATTERN] * 4 * count)
+    if count == 8:
+        number, answer = lines.read(text)
+        if number == 0:
+            left = packed(*answer)
+        else:
+            shared = answer
+    asked = call(b"i", len(text), count, data=text)
+    return asked, struct.pack("<Q", number | shared << 32) + left + text + KEPT
+
+
 def register_case(length, size, n):
     number, answer = execution.refusal_of(length, size), 0
     if number == 0 and n > 31:
@@ -145,6 +174,7 @@ class Maker(run_cases.Maker):
 
     def __init__(self, source):
         super().__init__(source)
+        self.lines = line_cases.Maker(source)
         # Bytes to cut files from, for each width of an element.
         self.pools = [self.pool(bits) for bits in (8, 16, 32, 64)]
 
@@ -280,16 +310,35 @@ class Maker(run_cases.Maker):
         count = 8 if self.source.below(8) else self.source.below(12)
         return decode_case(self.outside() if self.source.below(4) == 0 else word, count)
 
-    def encoding(self):
+    def fields(self):
+        """Of an operation; some at an edge, and now and then too few or too many."""
         source = self.source
-        op = source.choose(self.operations)
-        limits = model.limits_of(op.family, op.size)
-        fields = [*op[:4], *(0 if limit is None else source.below(limit + 1) for limit in limits)]
+        fields = [*self.lines.within(source.choose(self.operations)[:4])]
         for _ in range(source.below(3)):
             fields[source.below(8)] = source.choose(NUMBERS)
         if source.below(20) == 0:
             fields = fields[: source.below(8)] if source.below(2) else fields + [0]
-        return encode_case(fields)
+        return fields
+
+    def encoding(self):
+        return encode_case(self.fields())
+
+    def line_writing(self):
+        """Rooms about the length that the line has, if there is one."""
+        fields, room = self.fields(), self.source.below(lines.LONGEST + 2)
+        if self.source.below(4) and len(fields) == 8 and names_operation(fields):
+            _, length, _ = lines.write(Operation(*fields), lines.LONGEST)
+            room = max(0, length + self.source.choose((-1, 0, 0, 1, 64)))
+        return line_write_case(fields, room)
+
+    def line_reading(self):
+        """A line, as it is or with some bytes changed, and more of them behind it or cut off."""
+        source, text = self.source, self.lines.random()
+        for _ in range(source.choose((0, 1, 1, 2))):
+            text = self.lines.changed(text)
+        if source.below(4) == 0:
+            text = source.choose((text[: source.below(len(text) + 1)], text + text, text + b"\n", bytes(1000) + text))
+        return line_read_case(text, 8 if source.below(10) else source.below(12))
 
     def asking(self):
         source = self.source
@@ -307,7 +356,8 @@ class Maker(run_cases.Maker):
     def batch(self):
         """Every kind of case; those of the run more often, aimed ones most."""
         kinds = [self.program] * 5 + [self.coinciding_word] * 3 + [self.aimed_word] * 8 + [self.damaged]
-        kinds += [self.replaying, self.streaming] * 2 + [self.decoding, self.encoding, self.asking, self.text]
+        kinds += [self.replaying, self.streaming, self.line_writing, self.line_reading] * 2
+        kinds += [self.decoding, self.encoding, self.asking, self.text]
         for _ in range(BATCH):
             kind = self.source.choose(kinds)
             yield kind.__name__, *kind()
@@ -341,12 +391,32 @@ def against_model(program, seed, end):
     return cases, differences
 
 
+def against_lines(program):
+    """Every line as the archive writes it against the model's; the archive has read each back."""
+    process, differences = subprocess.Popen([program, "lines"], stdout=subprocess.PIPE), 0
+    for place, wanted in enumerate(lines.places()):
+        got = process.stdout.readline()
+        if got != wanted + b"\n":
+            differences += 1
+            if differences <= TOLD:
+                print(f"harness: line {place}: {got}, not {wanted}")
+    cases, found = ended(process)
+    if cases != lines.LINES:
+        print(f"harness: {cases} lines, not {lines.LINES}")
+        differences += 1
+    return cases, differences + found
+
+
 def told(asked):
-    """A call: its kind and its numbers, and of a run the first words."""
+    """A call: its kind and its numbers, of a run the first words, and of a line its text or the fields."""
     numbers = struct.unpack_from("<4Q", asked, 1)
     words = ""
     if asked[:1] == b"x":
         words = "".join(f" {word:08X}" for (word,) in struct.iter_unpack("<I", asked[33 + numbers[2] :][:32]))
+    elif asked[:1] == b"i":
+        words = f" {asked[33:]}"
+    elif asked[:1] == b"w":
+        words = f" {struct.unpack(f'<{numbers[0]}I', asked[33:])}"
     return f"{asked[:1].decode()} {numbers}{words}"
 
 
@@ -381,12 +451,14 @@ def main():
         flags = ["-std=gnu11", "-O3", "-Wall", "-Wextra", f"-I{given.include}", f"-I{ROOT / 'bench'}"]
         subprocess.run(["gcc", *flags, *sources, "-o", program], check=True)
 
+        lines.ordered()  # before the time begins
         end = time.monotonic() + given.seconds
         command = [program, "fuzz", str(given.seed), str(given.seconds)]
         beside = subprocess.Popen(command, stdout=subprocess.PIPE, text=True)
         cases, differences = against_model(program, given.seed, end)
         print(f"harness: {cases} calls against the model", flush=True)
-        parts = [(cases, differences), ended(beside)]
+        parts = [(cases, differences), ended(beside), against_lines(program)]
+        print(f"harness: {parts[-1][0]} lines, written and read back", flush=True)
         if given.words:
             parts.append(ended(subprocess.Popen([program, "words"], stdout=subprocess.PIPE, text=True)))
     cases, differences = map(sum, zip(*parts))

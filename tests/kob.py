@@ -11,6 +11,7 @@ import itertools
 import os
 import pty
 import re
+import resource
 import select
 import shutil
 import signal
@@ -40,6 +41,7 @@ WORDS = bytes.fromhex("00D8014500F0002F00000000")
 LISTING = b"4501D800 SQCADD\n2F00F000 RESERVED\n00000000 OUTSIDE\nTOTAL 3\n"
 FIRST = b"number 0, done 1, lane 0 is 127\n"
 UNREAD = b"kob list: the input could not be read\n"
+PROGRAMS = "list", "execute", "assemble", "disassemble", "replay_files"
 
 # As rt does, it works in the background, where an interrupt of the keyboard does not reach.
 RT = """#!/bin/sh
@@ -145,20 +147,24 @@ def status_of_a_listing(tree):
 def status_of_a_closed_pipe(tree):
     tree.lists()
     has_traces(tree)
-    for words in (("list",), ("replay", "agree.trace"), ("replay", "-")):
+    tree.run("asm")
+    tree.run("disasm")
+    for words in (("list",), ("replay", "agree.trace"), ("replay", "-"), ("asm",), ("disasm",)):
         reading, writing = os.pipe()
         os.close(reading)
         process = tree.start(*words, stdin=subprocess.PIPE, stdout=writing)
         os.close(writing)
-        said = process.communicate(WORDS, timeout=PATIENCE)[1]
+        said = process.communicate(TEXT if words == ("asm",) else WORDS, timeout=PATIENCE)[1]
         check(process.returncode == 128 + signal.SIGPIPE and said == b"", words, process.returncode, said)
 
 
 def status_of_what_cannot_start(tree):
     tree.lists()
-    (tree.root / "target/bin/list").chmod(0o644)
-    status, wrote, said = tree.run("list", data=WORDS)
-    check((status, wrote) == (1, b"") and b"kob: cannot start" in said, status, wrote, said)
+    tree.run("asm")
+    for name, word in (("list", "list"), ("assemble", "asm")):
+        (tree.root / "target/bin" / name).chmod(0o644)
+        status, wrote, said = tree.run(word, data=WORDS)
+        check((status, wrote) == (1, b"") and b"kob: cannot start" in said, word, status, wrote, said)
 
 
 def status_of_a_run(tree):
@@ -167,10 +173,69 @@ def status_of_a_run(tree):
         b"length 384\n": (0, b"answer 11 length not a power of two\nwords done 0\nqc 0\n", b""),
         b"length 128\nword 7\n": (0, b"answer 4 word outside the set\nwords done 0\nqc 0\nat word 0 00000007\n", b""),
         b"length 128\nword\n": (1, b"", b"kob run: line 2: a word is missing\n"),
+        b"length 128\nline CADD\n": (1, b"", b"kob run: line 2, column 10: the line is cut off: after 'CADD' comes ' '\n"),
     }
     tree.run("run", data=b"length 128")
     for text, wanted in texts.items():
         expect(tree.run("run", data=text), *wanted)
+
+
+TEXT = b"SQCADD Z0.B, Z0.B, Z0.B, #90\n.inst 0x2F00F000 // RESERVED\n.inst 0x00000000 // OUTSIDE\n"
+WRONG = b"kob asm: line 4, column 5: the line is cut off: after 'CADD' comes ' '\n"
+
+
+def status_of_assembling(tree):
+    said = tree.run("asm")[2]
+    check(b"building 'kob asm'" in said and tree.calls() == ["check assemble"], "it was built otherwise:", said)
+    held = tree.work / "a folder"
+    held.mkdir()
+    more = {"rt": {"TMPDIR": str(held)}}
+    many = TEXT * 40_000
+    for shell in ("sh", "bash"):
+        for text, words in ((b"", b""), (TEXT, WORDS), (many, WORDS * 40_000)):
+            expect(tree.run(tree.kob, "asm", kob=shell, data=text, **more), 0, words, b"")
+        expect(tree.run(tree.kob, "asm", "--hex", kob=shell, data=TEXT, **more), 0, b"4501D800\n2F00F000\n00000000\n", b"")
+        expect(tree.run(tree.kob, "asm", kob=shell, data=TEXT + b"CADD", **more), 1, b"", WRONG)
+        late = tree.run(tree.kob, "asm", "--hex", kob=shell, data=many + b"CADD\n" + TEXT, **more)
+        expect(late, 1, b"", WRONG.replace(b"line 4", b"line 120001"))
+    folder = os.open(tree.elsewhere, os.O_RDONLY)
+    expect(tree.run("asm", stdin=folder, **more), 1, b"", b"kob asm: the input could not be read\n")
+    os.close(folder)
+    with open("/dev/full", "wb") as full:
+        expect(tree.run("asm", data=TEXT, stdout=full, **more), 1, None, b"kob: the output could not be written\n")
+    for descriptor, what in ((0, b"kob: the input is not open\n"), (1, b"kob: the output is not open\n")):
+        expect(tree.run("asm", preexec_fn=lambda: os.close(descriptor), **more), 1, b"", what)
+    away = str(tree.work / "nothing")
+    expect(tree.run("asm", data=TEXT, rt={"TMPDIR": away}), 1, b"", f"kob: cannot hold the words in {away}\n".encode())
+    process = tree.start("asm", stdin=subprocess.PIPE, **more)
+    process.stdin.write(many)
+    process.stdin.flush()
+    check(not list(held.iterdir()), "it holds the words in a file with a name")
+    process.kill()
+    process.communicate(timeout=PATIENCE)
+    check(not list(held.iterdir()), "it left", list(held.iterdir()))
+
+
+def holds_what_is_full(tree):
+    """The words do not fit where they are held: a limit on the size of a file, which is told as a full device is."""
+    tree.run("asm")
+
+    def small():
+        signal.signal(signal.SIGXFSZ, signal.SIG_IGN)
+        resource.setrlimit(resource.RLIMIT_FSIZE, (4096, 4096))
+
+    got = tree.run("asm", data=TEXT * 40_000, preexec_fn=small, restore_signals=False, rt={"TMPDIR": str(tree.work)})
+    expect(got, 1, b"", f"kob: cannot hold the words in {tree.work}\n".encode())
+
+
+def status_of_disassembling(tree):
+    said = tree.run("disasm")[2]
+    check(b"building 'kob disasm'" in said and tree.calls() == ["check disassemble"], "it was built otherwise:", said)
+    expect(tree.run("disasm", data=WORDS), 0, TEXT, b"")
+    left = b"kob disasm: bytes left over behind the last whole word: 2\n"
+    expect(tree.run("disasm", data=WORDS + b"\0\0"), 1, TEXT, left)
+    with open("/dev/full", "wb") as full:
+        expect(tree.run("disasm", data=WORDS, stdout=full), 1, None, b"kob disasm: the output could not be written\n")
 
 
 # Names that a shell, or a table of columns, could take for something else.
@@ -348,10 +413,12 @@ def names_of_traces(tree):
 
 
 def status_of_usage(tree):
-    one_too_many = [(word, "a", "b") for word in ("list", "run", "install", "staticlib", "dist", "test", "version", "help")]
+    alone = "list", "run", "asm", "disasm", "install", "staticlib", "dist", "test", "version", "help"
+    one_too_many = [(word, "a", "b") for word in alone]
     wrong = ((), ("",), ("lists",), ("list", "words.bin"), ("install",), ("install", ""), ("install", "-x"))
+    options = (("asm", "a.s"), ("asm", "--hex", "a.s"), ("asm", ""), ("asm", "-hex"), ("disasm", "a.bin"), ("disasm", "--hex"))
     dashes = (("replay", "-", "-"), ("replay", "-", "agree.trace", "-"))
-    for words in (*wrong, *dashes, *one_too_many):
+    for words in (*wrong, *options, *dashes, *one_too_many):
         status, wrote, said = tree.run(*words)
         check((status, wrote) == (2, b"") and b"kob help" in said, words, status, wrote, said)
     for word in ("help", "--help", "-h"):
@@ -422,8 +489,8 @@ def builds_once(tree):
     tree.lists()
     check(not tree.calls(), "the second listing built again")
     archive = tree.root / "target/staticlib/libkobbeskuim.a"
-    parts = "capi_run", "capi", "capi_replay", "capi_stream"
-    library = ["check exec listing replay stream", *(f"staticlib {part}" for part in parts)]
+    parts = "capi_run", "capi", "capi_replay", "capi_stream", "capi_lines"
+    library = ["check exec listing replay stream line_reader line_writer", *(f"staticlib {part}" for part in parts)]
     for built in (library, []):
         status, wrote, said = tree.run("staticlib")
         check((status, wrote) == (0, b"%s\n" % bytes(archive)), status, wrote, said)
@@ -546,8 +613,10 @@ def pages(tree):
     tree.run("staticlib")
     tree.run("list")
     tree.run("run", data=b"length 128")
+    tree.run("asm")
+    tree.run("disasm")
     tree.run("replay", "nothing.trace")
-    names = "README.md", "docs/list.md", "docs/replay.md", "docs/c.md"
+    names = "README.md", "docs/list.md", "docs/asm.md", "docs/replay.md", "docs/c.md"
     examples = [example for name in names for example in shown(tree.root / name)]
     check(len(examples) > 8, "there are only", examples)
     first = (tree.root / "examples/c/first.c").read_text()
@@ -598,6 +667,8 @@ def installed(tree, prefix, version):
     """What stands in a prefix works with no checkout and no kit."""
     kob = prefix / "bin/kob"
     expect(tree.run("list", data=WORDS, kob=kob), 0, LISTING, b"")
+    expect(tree.run("disasm", data=WORDS, kob=kob), 0, TEXT, b"")
+    expect(tree.run("asm", data=TEXT, kob=kob), 0, WORDS, b"")
     expect(tree.run("version", kob=kob), 0, b"kobbeskuim %s\n" % version.encode(), b"")
     trace = str(prefix / "share/doc/kobbeskuim/examples/traces/differ.trace")
     expect(tree.run("replay", trace, kob=kob), *judgement(prefix, trace))
@@ -664,14 +735,15 @@ def makes_a_tar(tree):
         check(part in note, "the note has no", part, note)
     crates = [line.split(":")[0] for line in (ROOT / "crates.txt").read_text().splitlines() if re.match(r"[a-z]", line)]
     for crate in crates:
-        assumed = r", assuming libc::read, libc::write" if crate in ("list", "execute", "replay_files") else ""
+        assumed = r", assuming libc::read, libc::write" if crate in PROGRAMS else ""
         counted = re.search(rf"^{crate} \d+{assumed}$", note, re.M)
         check(bool(counted) != crate.endswith("cases"), "the note counts", crate, "wrongly")
     installed(tree, prefix, version)
 
 
 SCENARIOS = (
-    status_of_a_listing, status_of_a_closed_pipe, status_of_what_cannot_start, status_of_a_run, status_of_a_replay,
+    status_of_a_listing, status_of_a_closed_pipe, status_of_what_cannot_start, status_of_a_run, status_of_assembling,
+    holds_what_is_full, status_of_disassembling, status_of_a_replay,
     replay_of_standard_input, replay_of_no_input, replay_while_it_comes, replay_of_a_gone_device, names_of_traces,
     status_of_usage, statuses_by_make, starts_in_5_ms, replays_in_5_ms, builds_once, fails_to_build, two_at_once,
     interrupted, interrupted_while_another_waits, read_only_tree, pages, links, installs, installs_under_one_lock,

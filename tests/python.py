@@ -35,13 +35,16 @@ import execution
 import harness
 import kernel_cases
 import kobbeskuim
+import line_cases
+import lines
 import model
 import replay
 import report
 import run_cases
 import traces
 from execution import LENGTHS, MULTIPLES
-from kobbeskuim import Family, Form, Kind, Number, Operation, Refused, Size, Stopped, Stream, StreamRefused, Verdict
+from kobbeskuim import Family, Form, Kind, NotALine, Number, Operation, Refused, Size, Stopped, Stream, StreamRefused
+from kobbeskuim import Verdict
 
 SONAME = f"libkobbeskuim.so.{kobbeskuim.VERSION.split('.')[0]}"
 CADD, OUTSIDE, RESERVED = 0x4500D800, 0x00000000, 0x2F00F000
@@ -187,6 +190,69 @@ class Words(unittest.TestCase):
         for end, last in ((4 * most, "TOTAL 1048576\n"), (4 * most + 3, "TAIL 3\nTOTAL 1048576\n"),
                           (4 * most + 4, "LIMIT\n"), (4 * most + 7, "LIMIT\n"), (4 * most + 8, "LIMIT\n")):  # fmt: skip
             self.assertTrue(kobbeskuim.listing(data[:end]) == line * most + last, end)
+
+
+class Lines(unittest.TestCase):
+    def reads(self, text):
+        """As the model: 0 and the operation, or 12 and the reach."""
+        try:
+            found = 0, kobbeskuim.read_line(text)
+        except NotALine as refused:
+            found = refused.number, refused.reach
+        self.assertEqual(found, lines.read(text), text)
+        return found
+
+    def writes(self, fields):
+        """Each operation that has a word has a line, by the model's too; the others are refused alike."""
+        number, word = answered(kobbeskuim.encode, fields)
+        found = answered(kobbeskuim.line, fields)
+        text = None if number else lines.write(fields, kobbeskuim.LINE_MAX)[2].decode()
+        self.assertEqual(found, (number, text), fields)
+        if not number:
+            self.assertEqual(kobbeskuim.read_line(text), fields)
+        return number
+
+    def test_lines_and_their_beginnings(self):
+        for text, op in lines.BY_HAND:
+            self.assertEqual((kobbeskuim.line(op), self.reads(text)), (text.decode(), (0, op)))
+            for reach in range(len(text)):
+                self.assertEqual(self.reads(text[:reach]), (Number.NOT_A_LINE, reach))
+            for more in line_cases.BEHIND:
+                self.reads(text + more)
+        for beginning, rest in lines.NO_LINES:
+            self.assertEqual(self.reads(beginning + rest), (Number.NOT_A_LINE, len(beginning)))
+        self.assertEqual(lines.LONGEST, kobbeskuim.LINE_MAX)
+
+    def test_operations(self):
+        found = {self.writes(op) for op in cases.operations()}
+        for op in kernel_cases.operations():
+            for place, value in product(range(8), harness.NUMBERS):
+                found.add(self.writes(model.Operation(*op[:place], value, *op[place + 1 :])))
+        for fields in ([], [0] * 7, [0] * 9):
+            self.assertEqual(answered(kobbeskuim.line, fields), (Number.BAD_FIELDS, None))
+        self.assertEqual(found, {0, 7, 8, 9, 10, 33})
+
+    def test_texts(self):
+        maker = line_cases.Maker(cases.Source(13))
+        for text in (*maker.edges(), *maker.turns(), *maker.destinations(), *maker.numbers(), *maker.names()):
+            self.reads(text)
+            self.reads(maker.changed(text))
+
+    def test_texts_of_every_kind(self):
+        text, op = lines.BY_HAND[0]
+        for given in (text.decode(), bytearray(text), memoryview(text), array("B", text)):
+            self.assertEqual(kobbeskuim.read_line(given), op)
+        found = kobbeskuim.read_line(text)
+        self.assertEqual([type(field) for field in found], [Family, Size, Form, int, int, int, int, int])
+        ended = text.decode() + "\n", len(text)
+        for wrong, reach in (("", 0), ("CADD\u00e9", 4), ("CADD Z\ud800", 6), ("\0", 0), ended):
+            with self.assertRaises(NotALine) as caught:
+                kobbeskuim.read_line(wrong)
+            for refused in (caught.exception, pickle.loads(pickle.dumps(caught.exception))):
+                self.assertEqual((refused.number, refused.reach), (Number.NOT_A_LINE, reach))
+        for wrong in (None, 4, [1, 2]):
+            self.assertRaises(TypeError, kobbeskuim.read_line, wrong)
+        self.assertRaisesRegex(ValueError, "^field 7 is", kobbeskuim.line, Operation(*op)._replace(index=2**32))
 
 
 def judged(trace, n):

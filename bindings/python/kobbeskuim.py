@@ -1,5 +1,5 @@
-"""Kobbeskuim from Python: AArch64's saturating complex vector instructions, executed, decoded, written and listed, and
-a recorder's trace of them replayed, whole or in pieces.
+"""Kobbeskuim from Python: AArch64's saturating complex vector instructions, executed, decoded, written and listed, as
+words and as lines of text, and a recorder's trace of them replayed, whole or in pieces.
 
 One file over the shared library, by ctypes. SQCADD at 128 bits: Z0 = (0, 0), Z1 = (-128, -128), 90 degrees.
 
@@ -29,7 +29,7 @@ from typing import TYPE_CHECKING, Iterable, Iterator, NamedTuple, SupportsIndex
 if TYPE_CHECKING:
     from _typeshed import ReadableBuffer, WriteableBuffer
 
-VERSION = "0.4.0"
+VERSION = "0.5.0"
 _SONAME = f"libkobbeskuim.so.{VERSION.split('.')[0]}"
 
 # ---- limits
@@ -42,6 +42,7 @@ WORDS_MAX = 4096  # of a program
 LIST_WORDS_MAX = 1048576  # of a listing; one more gives its LIMIT line
 TRACE_MAX = 65536  # bytes, but where a trace comes as a stream
 CASES_MAX = 1024  # that the contents of a trace may name
+LINE_MAX = 38  # bytes of the longest line
 STREAM_SIZE = 20544  # bytes of a stream's state
 
 # ---- numbers answered, and the exceptions that carry them
@@ -70,6 +71,8 @@ class Number(IntEnum):
     REGISTER_LIMIT = 9, "register field above its limit"
     INDEX_LIMIT = 10, "index above its limit"
     NOT_POWER_OF_TWO = 11, "length not a power of two"
+    NOT_A_LINE = 12, "not a line"
+    NO_LINE_ROOM = 13, "room shorter than the line"
     BAD_CONTENTS = 15, "contents cut short or not allowed"
     BAD_TOTAL = 16, "trace above 64 KiB or not as long as its contents say"
     BAD_FLAG = 17, "flag neither 0 nor 1"  # the kind of a verdict, not a refusal
@@ -99,6 +102,18 @@ class Stopped(Refused):
 
     def __str__(self) -> str:
         return f"{super().__str__()}: at word {self.done}, {self.word:08X}"
+
+
+class NotALine(Refused):
+    """A text is no line. `reach` is the length of the longest beginning that some line has: where it is the text's own,
+    a line was cut off; else what stands there, counted from 0, is the first that no line has at that place."""
+
+    def __init__(self, number: Number, reach: int) -> None:
+        super().__init__(number, reach)
+        self.reach = reach
+
+    def __str__(self) -> str:
+        return f"{super().__str__()}: from byte {self.reach} on"
 
 
 class StreamRefused(Refused):
@@ -193,6 +208,8 @@ _CALLS = {
     "kob_register": (_ANSWER, _SIZE, _SIZE, _SIZE),
     "kob_decode": (_WORD, _WORD, _WORDS, _SIZE),
     "kob_encode": (_ANSWER, _WORDS, _SIZE),
+    "kob_line_write": (_ANSWER, _WORDS, _SIZE, _BYTES, _SIZE),
+    "kob_line_read": (_ANSWER, _BYTES, _SIZE, _WORDS, _SIZE),
     "kob_list": (_ANSWER, _BYTES, _SIZE, _BYTES, _SIZE),
     "kob_replay": (_ANSWER, _BYTES, _SIZE, _SIZE),
     "kob_stream_feed": (_ANSWER, _BYTES, _SIZE, _BYTES, _SIZE),
@@ -295,6 +312,11 @@ def register(length: SupportsIndex, file: ReadableBuffer, n: SupportsIndex) -> m
     return memoryview(file).cast("B")[start : start + (answer >> 40)]
 
 
+def _operation(fields: array[int]) -> Operation:
+    family, size, form, *others = fields
+    return Operation(Family(family), Size(size), Form(form), *others)
+
+
 def decode(word: SupportsIndex) -> Operation:
     """The operation of a word. Refused by 4 or 5.
 
@@ -306,8 +328,7 @@ def decode(word: SupportsIndex) -> Operation:
     """
     fields = array("I", [0] * len(Operation._fields))
     _done(_library.kob_decode(_number("word", word, 32), _Words.from_buffer(fields), len(fields)))
-    family, size, form, *others = fields
-    return Operation(Family(family), Size(size), Form(form), *others)
+    return _operation(fields)
 
 
 def encode(operation: Operation) -> int:
@@ -320,6 +341,37 @@ def encode(operation: Operation) -> int:
     answer: int = _library.kob_encode(_Words.from_buffer(fields), len(fields))
     _done(answer & 0xFFFFFFFF)
     return answer >> 32
+
+
+def line(operation: Operation) -> str:
+    """The line of an operation: its assembler text, with no line end. Refused as by `encode`, so each operation that
+    has a word has a line.
+
+    >>> line(decode(0x44BA7420))
+    'SQRDCMLAH Z0.H, Z1.H, Z2.H[3], #90'
+    """
+    fields, out = _numbers("field", operation), bytearray(LINE_MAX)
+    answer = _library.kob_line_write(_Words.from_buffer(fields), len(fields), _Bytes.from_buffer(out), len(out))
+    _done(answer & 0xFFFFFFFF)
+    return out[: answer >> 32].decode("ascii")
+
+
+def read_line(text: str | ReadableBuffer) -> Operation:
+    """The operation whose line the whole text is. NotALine where there is none: no byte above 127, zero byte or line
+    end belongs to a line.
+
+    >>> hex(encode(read_line("SQRDMLSH V0.4H, V1.4H, V2.H[7]")))
+    '0x2f72f820'
+    >>> read_line("SQCADD Z3.H, Z4.H, Z5.H, #270")
+    Traceback (most recent call last):
+    kobbeskuim.NotALine: 12, not a line: from byte 14 on
+    """
+    given = bytearray(text, "utf-8", "replace") if isinstance(text, str) else bytearray(memoryview(text))
+    fields = array("I", [0] * len(Operation._fields))
+    answer = _library.kob_line_read(_Bytes.from_buffer(given), len(given), _Words.from_buffer(fields), len(fields))
+    if answer & 0xFFFFFFFF:
+        raise NotALine(Number(answer & 0xFFFFFFFF), answer >> 32)
+    return _operation(fields)
 
 
 def listing(data: ReadableBuffer) -> str:

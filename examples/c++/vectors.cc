@@ -29,12 +29,18 @@ void saturate() {
 void leave_empty(uint8_t *no_bytes, uint32_t *no_numbers) {
     const uint32_t word = 0x4501D820; /* SQCADD Z0.B, Z0.B, Z1.B, 90 */
     const Bytes bytes(4);
-    Bytes file(KOB_FILE_SIZE(128)), text(KOB_LIST_ROOM(0)), state(KOB_STREAM_SIZE);
+    Numbers fields(KOB_FIELDS);
+    kob_decode(word, fields.data(), fields.size());
+    Bytes file(KOB_FILE_SIZE(128)), line(KOB_LINE_MAX), text(KOB_LIST_ROOM(0)), state(KOB_STREAM_SIZE);
     tell("run, no words", kob_run_number(kob_run(128, file.data(), file.size(), false, no_numbers, 0)));
     tell("run, no file", kob_run_number(kob_run(128, no_bytes, 0, false, &word, 1)));
     tell("run, neither", kob_run_number(kob_run(0, no_bytes, 0, false, no_numbers, 0)));
     tell("decode, no fields", kob_decode(word, no_numbers, 0));
     tell("encode, no fields", kob_encode_number(kob_encode(no_numbers, 0)));
+    tell("write, no fields", kob_line_write_number(kob_line_write(no_numbers, 0, line.data(), line.size())));
+    tell("write, no room", kob_line_write_number(kob_line_write(fields.data(), fields.size(), no_bytes, 0)));
+    tell("read, no text", kob_line_read_number(kob_line_read(no_bytes, 0, fields.data(), fields.size())));
+    tell("read, no fields", kob_line_read_number(kob_line_read(line.data(), line.size(), no_numbers, 0)));
     text.resize(kob_list(no_bytes, 0, text.data(), text.size()));
     std::cout << "list, no bytes: " << std::string(text.begin(), text.end());
     const bool refused = kob_list(bytes.data(), bytes.size(), no_bytes, 0) == KOB_NO_ROOM &&

@@ -40,6 +40,9 @@ pub const TRACE_MAX: usize = 65_536;
 /// The most cases that the contents of a trace may name.
 pub const CASES_MAX: usize = 1024;
 
+/// The bytes of the longest line.
+pub const LINE_MAX: usize = 38;
+
 /// The bytes of a [`Stream`]'s state.
 pub const STREAM_SIZE: usize = 20_544;
 
@@ -91,7 +94,8 @@ macro_rules! numbers {
 }
 
 numbers! {
-    /// Why a call refuses. `BAD_FIELDS` is for C alone: [`Fields`] and [`Stream`] have their sizes.
+    /// Why a call refuses. `BAD_FIELDS` and `NO_LINE_ROOM` are for C alone: [`Fields`] and [`Stream`] have their
+    /// sizes, and [`line()`] has room. `NOT_A_LINE` is [`NotALine`]'s, which says more.
     Refused {
         BAD_LENGTH = 1: "length not a multiple of 128 from 128 to 2,048",
         BAD_SIZE = 2: "file not 4 x L bytes",
@@ -104,6 +108,8 @@ numbers! {
         REGISTER_LIMIT = 9: "register field above its limit",
         INDEX_LIMIT = 10: "index above its limit",
         NOT_POWER_OF_TWO = 11: "length not a power of two",
+        NOT_A_LINE = 12: "not a line",
+        NO_LINE_ROOM = 13: "room shorter than the line",
         BAD_CONTENTS = 15: "contents cut short or not allowed",
         BAD_TOTAL = 16: "trace above 64 KiB or not as long as its contents say",
         NO_CASE = 22: "case not below the number of cases",
@@ -181,6 +187,8 @@ unsafe extern "C" {
     safe fn kob_register(l: usize, size: usize, n: usize) -> u64;
     fn kob_decode(word: u32, fields: *mut Fields, length: usize) -> u32;
     fn kob_encode(fields: *const Fields, length: usize) -> u64;
+    fn kob_line_write(fields: *const Fields, length: usize, out: *mut u8, room: usize) -> u64;
+    fn kob_line_read(line: *const u8, length: usize, fields: *mut Fields, fields_length: usize) -> u64;
     fn kob_list(bytes: *const u8, length: usize, out: *mut u8, room: usize) -> u64;
     fn kob_replay(trace: *const u8, length: usize, n: usize) -> u64;
     fn kob_stream_feed(state: *mut u8, state_length: usize, bytes: *const u8, length: usize) -> u64;
@@ -293,6 +301,64 @@ pub fn encode(fields: &Fields) -> Result<u32, Refused> {
     // Safety: the part is a reference's.
     let r = unsafe { kob_encode(fields, FIELDS) };
     answered(r as u32, (r >> 32) as u32)
+}
+
+/// The line of the operation that the fields name: its assembler text, of at most [`LINE_MAX`] bytes, with no line
+/// end. Refuses as [`encode`], so each operation that has a word has a line, and no two have the same.
+///
+/// ```
+/// use kobbeskuim::{Refused, decode, line};
+///
+/// let mut fields = decode(0x44BA_7420)?;
+/// assert_eq!(line(&fields)?, "SQRDCMLAH Z0.H, Z1.H, Z2.H[3], #90");
+/// fields.index = 4;
+/// assert_eq!(line(&fields), Err(Refused::INDEX_LIMIT));
+/// # Ok::<(), Refused>(())
+/// ```
+pub fn line(fields: &Fields) -> Result<String, Refused> {
+    let mut out = vec![0; LINE_MAX];
+    // Safety: the first part is a reference's, and `out` is new.
+    let r = unsafe { kob_line_write(fields, FIELDS, out.as_mut_ptr(), out.len()) };
+    answered(r as u32, ())?;
+    out.truncate((r >> 32) as usize);
+    Ok(String::from_utf8(out).expect("a line is ASCII"))
+}
+
+/// A text that is no line, by [`read_line`].
+#[derive(Clone, Copy, Debug, PartialEq, Eq, Hash)]
+pub struct NotALine {
+    /// The length of the longest beginning of the text that some line has. Where it is the text's own, a line was cut
+    /// off; else the byte at this place, counted from 0, is the first that no line has there.
+    pub reach: usize,
+}
+
+impl fmt::Display for NotALine {
+    fn fmt(&self, f: &mut fmt::Formatter) -> fmt::Result {
+        write!(f, "{} from byte {} on", Refused::NOT_A_LINE, self.reach)
+    }
+}
+
+impl std::error::Error for NotALine {}
+
+/// The fields of the operation whose line the whole text is. No byte above 127, zero byte or line end belongs to a
+/// line.
+///
+/// ```
+/// use kobbeskuim::{NotALine, encode, line, read_line};
+///
+/// let text = "SQRDMLSH V0.4H, V1.4H, V2.H[7]";
+/// let fields = read_line(text)?;
+/// assert_eq!((encode(&fields), line(&fields)), (Ok(0x2F72_F820), Ok(text.into())));
+/// // The destination, which CADD has as its first source too, is another.
+/// assert_eq!(read_line("CADD Z0.B, Z1.B, Z2.B, #90"), Err(NotALine { reach: 12 }));
+/// assert_eq!(read_line("CADD Z0.B, ").unwrap_err().to_string(), "not a line from byte 11 on");
+/// # Ok::<(), NotALine>(())
+/// ```
+pub fn read_line(text: impl AsRef<[u8]>) -> Result<Fields, NotALine> {
+    let (text, mut fields) = (text.as_ref(), Fields::default());
+    // Safety: the first part is a slice, and the other our own.
+    let r = unsafe { kob_line_read(text.as_ptr(), text.len(), &raw mut fields, FIELDS) };
+    if r == 0 { Ok(fields) } else { Err(NotALine { reach: (r >> 32) as usize }) }
 }
 
 /// The listing of all little-endian 4-byte words of a buffer.

@@ -89,6 +89,7 @@ fn words_decoded() {
     assert_eq!(decode(0x2F00_F400), Err(Refused::OUTSIDE));
 }
 
+/// Neither has a word or a line.
 #[test]
 fn operations_refused() {
     let refusals = [
@@ -113,10 +114,11 @@ fn operations_refused() {
     ];
     for (numbers, refused) in refusals {
         assert_eq!(encode(&fields(numbers)), Err(refused), "{numbers:?}");
+        assert_eq!(line(&fields(numbers)), Err(refused), "{numbers:?}");
     }
 }
 
-/// Every upper half of the bases' words, with lower halves from a plain sequence.
+/// Every upper half of the bases' words, with lower halves from a plain sequence. Their line gives the fields too.
 #[test]
 fn fields_of_a_word_give_that_word() {
     let (mut low, mut operations) = (1u32, 0);
@@ -126,11 +128,64 @@ fn fields_of_a_word_give_that_word() {
             let word = high << 16 | low >> 16;
             if let Ok(fields) = decode(word) {
                 assert_eq!(encode(&fields), Ok(word));
+                assert_eq!(read_line(line(&fields).unwrap()), Ok(fields));
                 operations += 1;
             }
         }
     }
     assert!(operations > 10_000, "only {operations} operations were tried");
+}
+
+#[test]
+fn lines() {
+    let lines = [
+        ([0, 0, 0, 1, 0, 0, 1, 0], "CADD Z0.B, Z0.B, Z1.B, #90"),
+        ([1, 1, 0, 3, 31, 0, 5, 0], "SQCADD Z31.H, Z31.H, Z5.H, #270"),
+        ([2, 3, 0, 0, 9, 10, 11, 0], "CMLA Z9.D, Z10.D, Z11.D, #0"),
+        ([3, 1, 0, 2, 0, 1, 7, 3], "CMLA Z0.H, Z1.H, Z7.H[3], #180"),
+        ([4, 0, 0, 3, 0, 1, 31, 0], "SQRDCMLAH Z0.B, Z1.B, Z31.B, #270"),
+        ([5, 2, 0, 3, 31, 30, 15, 1], "SQRDCMLAH Z31.S, Z30.S, Z15.S[1], #270"),
+        ([6, 2, 2, 0, 0, 1, 31, 3], "SQRDMLAH V0.4S, V1.4S, V31.S[3]"),
+        ([6, 2, 1, 0, 0, 1, 2, 0], "SQRDMLAH V0.2S, V1.2S, V2.S[0]"),
+        ([7, 1, 2, 0, 0, 1, 2, 7], "SQRDMLSH V0.8H, V1.8H, V2.H[7]"),
+        ([7, 1, 0, 0, 0, 1, 2, 7], "SQRDMLSH H0, H1, V2.H[7]"),
+    ];
+    for (numbers, text) in lines {
+        assert_eq!(line(&fields(numbers)).as_deref(), Ok(text));
+        assert_eq!(read_line(text), Ok(fields(numbers)));
+        // A beginning is cut off, and nothing follows a line.
+        for reach in 0..text.len() {
+            assert_eq!(read_line(&text[..reach]), Err(NotALine { reach }));
+        }
+        for more in ["\n", "\0", " ", "\u{ff}"] {
+            assert_eq!(read_line(format!("{text}{more}")), Err(NotALine { reach: text.len() }));
+        }
+    }
+    assert_eq!(lines.map(|(_, text)| text.len()).into_iter().max(), Some(LINE_MAX));
+}
+
+#[test]
+fn texts_refused() {
+    let texts = [
+        ("", 0),
+        ("sqcadd Z0.B, Z0.B, Z1.B, #90", 0),
+        ("CADD  Z0.B, Z0.B, Z1.B, #90", 5),
+        ("CADD Z00.B, Z0.B, Z1.B, #90", 7),
+        ("CADD Z32.B, Z0.B, Z1.B, #90", 7),
+        ("CADD Z3.B, Z4.B, Z1.B, #90", 12),
+        ("CADD Z3.B,Z3.B, Z1.B, #90", 10),
+        ("CADD Z0.B, Z0.B, Z1.B, #0", 24),
+        ("CADD Z0.B, Z0.H, Z1.B, #90", 14),
+        ("CMLA Z0.B, Z1.B, Z2.B[0], #0", 21),
+        ("CMLA Z0.H, Z1.H, Z8.H[0], #0", 21),
+        ("CMLA Z0.S, Z1.S, Z15.S[2], #0", 23),
+        ("SQRDMLAH V0.2H, V1.2H, V2.H[0]", 13),
+        ("SQRDMLAH B0, B1, V2.B[0]", 9),
+    ];
+    for (text, reach) in texts {
+        assert_eq!(read_line(text), Err(NotALine { reach }), "{text}");
+    }
+    assert_eq!(read_line([0x80; 100_000]), Err(NotALine { reach: 0 }));
 }
 
 #[test]
@@ -350,6 +405,7 @@ fn as_in_the_header() {
         ("LIST_WORDS_MAX", LIST_WORDS_MAX),
         ("TRACE_MAX", TRACE_MAX),
         ("CASES_MAX", CASES_MAX),
+        ("LINE_MAX", LINE_MAX),
         ("STREAM_SIZE", STREAM_SIZE),
         ("FIELDS", size_of::<Fields>() / 4),
     ];

@@ -8,7 +8,7 @@ use Rattle.isa.specs.Decode.{decodeOf}
 use Rattle.isa.specs.Number.{decodedNumber}
 use Rattle.isa.specs.declared.types.Op.{Op}
 use Rattle.isa.specs.declared.types.Decoded.{Decoded}
-use Rattle.capi.specs.Fields.{fieldsOf}
+use Rattle.fields.specs.Fields.{fieldsOf}
 use Rattle.capi.specs.Decode.{decodeCall}
 
 module _ (w : ℕ) (fields : List ℕ) where

@@ -1,6 +1,5 @@
 pub mod Place
 pub mod Listing
-pub mod Put
 pub mod Decoded
 pub mod Named
 pub mod RoundTrip

@@ -7,11 +7,7 @@ use lib.ListN.{length}
 use Rattle.isa.specs.Decode.{decodeOf}
 use Rattle.isa.specs.Number.{decodedNumber}
 use Rattle.isa.specs.declared.types.Decoded.{Decoded}
-use Rattle.capi.specs.Fields.{fieldsOf}
-
--- a lent part of other than 8 numbers; above every number of the papers
-abbrev pub badPart : ℕ
-badPart = 32
+use Rattle.fields.specs.Fields.{fieldsOf, badPart}
 
 pub record DecodeAnswer : Type 0 where
   pub answer : ℕ

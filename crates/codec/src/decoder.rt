@@ -15,7 +15,7 @@ use isa::types::Op;
 use isa::types::Rotation;
 use isa::types::Size;
 
-fn size_of(n: u32) -> Size
+pub fn size_of(n: u32) -> Size
     ensures { λ r. ⌜ r ≡ sizeOf n ⌝ }
 {
     match n {
@@ -26,7 +26,7 @@ fn size_of(n: u32) -> Size
     }
 }
 
-fn rotation_of(n: u32) -> Rotation
+pub fn rotation_of(n: u32) -> Rotation
     ensures { λ r. ⌜ r ≡ rotationOf n ⌝ }
 {
     match n {
@@ -37,7 +37,7 @@ fn rotation_of(n: u32) -> Rotation
     }
 }
 
-fn add_rotation_of(n: u32) -> Rotation
+pub fn add_rotation_of(n: u32) -> Rotation
     ensures { λ r. ⌜ r ≡ addRotationOf n ⌝ }
 {
     match n {

@@ -14,7 +14,7 @@ use isa::types::Rotation;
 use isa::types::Size;
 use isa::types::Written;
 
-fn size_bits(z: Size) -> u32
+pub fn size_bits(z: Size) -> u32
     ensures { λ r. ⌜ (r ≡ sizeBits z) × (r < 4) ⌝ }
 {
     match z {
@@ -25,7 +25,7 @@ fn size_bits(z: Size) -> u32
     }
 }
 
-fn rotation_bits(rot: Rotation) -> u32
+pub fn rotation_bits(rot: Rotation) -> u32
     ensures { λ r. ⌜ (r ≡ rotationBits rot) × (r < 4) ⌝ }
 {
     match rot {
@@ -48,7 +48,7 @@ fn add_rotation(rot: Rotation) -> bool
     }
 }
 
-fn add_rotation_bits(rot: Rotation) -> u32
+pub fn add_rotation_bits(rot: Rotation) -> u32
     ensures { λ r. ⌜ (r ≡ addRotationBits rot) × (r < 2) ⌝ }
 {
     match rot {
@@ -71,7 +71,7 @@ fn half_or_single(z: Size) -> bool
 }
 
 // One of the two, so below whatever both are below.
-fn by_size(h: u32, s: u32, z: Size) -> u32
+pub fn by_size(h: u32, s: u32, z: Size) -> u32
     ensures { λ r. ⌜ (r ≡ bySize h s z) × ((n : ℕ) → h < n → s < n → r < n) ⌝ }
 {
     match z {

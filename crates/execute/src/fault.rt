@@ -1,4 +1,6 @@
 // What can be wrong with a line of the text.
+use crate::scan::second_word;
+use text::put_byte;
 use text::put_line;
 use text::put_number;
 use text::put_text;
@@ -40,7 +42,12 @@ pub const TOO_MANY_BYTES: Fault = 15;
 
 pub const TOO_MUCH: Fault = 16;
 
-const REASONS: [u8; 412] = *b"unknown statement
+pub const INSTRUCTION_MISSING: Fault = 17;
+
+// Has no line of REASONS: the message says what is due.
+pub const NOT_AN_INSTRUCTION: Fault = 18;
+
+const REASONS: [u8; 438] = *b"unknown statement
 the length must come first
 a second length
 the text ends with no length
@@ -57,11 +64,16 @@ a register above 31
 a byte of one digit
 more bytes than a register has
 more than the statement takes
+an instruction is missing
 ";
 
-// The message, at the start of out; answers its length.
-pub fn put_fault(out: &mut [u8], fault: Fault, line: u64) -> usize {
+// The message on a fault in the line at the start of a text, at the start of out; answers its length.
+pub fn put_fault(out: &mut [u8], fault: Fault, line: u64, text: &[u8]) -> usize {
     let numbered = put_number(out, 0, b"kob run: line ", line);
+    if fault == NOT_AN_INSTRUCTION {
+        let told = assembly::put_fault(out, numbered, text, second_word(text));
+        return put_byte(out, told, b'\n');
+    }
     let parted = put_text(out, numbered, b": ");
     put_line(out, parted, &REASONS, fault as usize)
 }

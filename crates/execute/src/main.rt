@@ -36,7 +36,7 @@ const WORDS: usize = 4097;
 const OUT: usize = 98304;
 
 // Room for the longest message.
-const MESSAGE: usize = 128;
+const MESSAGE: usize = 256;
 
 fn least(a: usize, b: usize) -> usize
     ensures { λ r. ⌜ r ≤ b ⌝ }
@@ -58,9 +58,9 @@ fn tell(request: Request, ran: Ran, before: &[u8], after: &[u8], words: &[u32]) 
     }
 }
 
-fn refuse(fault: Fault, line: u64) {
+fn refuse(fault: Fault, line: u64, text: &[u8]) {
     let mut out = [0u8; MESSAGE];
-    let n = put_fault(&mut out, fault, line);
+    let n = put_fault(&mut out, fault, line, text);
     write_start(STDERR_FILENO, &out, n);
 }
 
@@ -74,7 +74,10 @@ fn execute(text: &[u8]) {
             let ran = run(request, &mut file, &words);
             tell(request, ran, &before, &file, &words);
         }
-        Parsed::Wrong(fault, line) => refuse(fault, line),
+        Parsed::Wrong(fault, line, at) => {
+            let start = least(at, text.len());
+            refuse(fault, line, &text[start..]);
+        }
     }
 }
 

@@ -1,7 +1,6 @@
 // The text: what it asks for, its words and its registers.
-ghost use Prim.Native.Nat.{_<_, _≤_};
-ghost use lib.ListN.{length};
 use crate::fault::Fault;
+use crate::fault::INSTRUCTION_MISSING;
 use crate::fault::LENGTH_MISSING;
 use crate::fault::LENGTH_NOT_FIRST;
 use crate::fault::LENGTH_TOO_LARGE;
@@ -9,6 +8,7 @@ use crate::fault::LENGTH_TWICE;
 use crate::fault::NO_SUCH_REGISTER;
 use crate::fault::NO_SUCH_SIZE;
 use crate::fault::NOT_A_FLAG;
+use crate::fault::NOT_AN_INSTRUCTION;
 use crate::fault::TOO_MANY_BYTES;
 use crate::fault::TOO_MANY_WORDS;
 use crate::fault::TOO_MUCH;
@@ -25,6 +25,8 @@ use crate::scan::number_at;
 use crate::scan::pair_at;
 use crate::scan::skip_spaces;
 use crate::scan::spells;
+use assembly::Assembled;
+use text::next_line;
 
 const MOST_BITS: usize = 4096;
 
@@ -45,9 +47,10 @@ enum Said {
     Wrong(Fault),
 }
 
+// What the text comes to: a wrong line has its number, and the place where it starts.
 pub enum Parsed {
     Taken(Request),
-    Wrong(Fault, u64),
+    Wrong(Fault, u64, usize),
 }
 
 enum Kind {
@@ -55,6 +58,7 @@ enum Kind {
     Qc,
     Show,
     Word,
+    Line,
     Register,
     Unknown,
 }
@@ -71,6 +75,9 @@ fn kind_at(s: &[u8], at: usize) -> Kind {
     }
     if spells(s, at, b"word") {
         return Kind::Word;
+    }
+    if spells(s, at, b"line") {
+        return Kind::Line;
     }
     if spells(s, at, b"z") {
         return Kind::Register;
@@ -156,7 +163,17 @@ fn read_show(s: &[u8], at: usize, request: Request) -> Said {
     read_size(s, at, request)
 }
 
-fn read_word(s: &[u8], at: usize, mut request: Request, words: &mut [u32]) -> Said {
+fn add_word(word: u32, mut request: Request, words: &mut [u32]) -> Said {
+    let n = request.words;
+    if words.len() <= n {
+        return Said::Wrong(TOO_MANY_WORDS);
+    }
+    words[n] = word;
+    request.words = n + 1;
+    Said::Fine(request)
+}
+
+fn read_word(s: &[u8], at: usize, request: Request, words: &mut [u32]) -> Said {
     let word = code_at(s, at);
     match word {
         Number::Wrong(fault) => Said::Wrong(fault),
@@ -164,14 +181,17 @@ fn read_word(s: &[u8], at: usize, mut request: Request, words: &mut [u32]) -> Sa
             if !ends(s, end) {
                 return Said::Wrong(TOO_MUCH);
             }
-            let n = request.words;
-            if words.len() <= n {
-                return Said::Wrong(TOO_MANY_WORDS);
-            }
-            words[n] = (x % 4294967296) as u32;
-            request.words = n + 1;
-            Said::Fine(request)
+            add_word((x % 4294967296) as u32, request, words)
         }
+    }
+}
+
+fn read_instruction(s: &[u8], at: usize, request: Request, words: &mut [u32]) -> Said {
+    let assembled = assembly::assemble(s, at);
+    match assembled {
+        Assembled::Word(word) => add_word(word, request, words),
+        Assembled::Nothing => Said::Wrong(INSTRUCTION_MISSING),
+        Assembled::Wrong => Said::Wrong(NOT_AN_INSTRUCTION),
     }
 }
 
@@ -224,6 +244,7 @@ fn read_later(
         Kind::Qc => read_qc(s, at, request),
         Kind::Show => read_show(s, at, request),
         Kind::Word => read_word(s, at, request, words),
+        Kind::Line => read_instruction(s, at, request, words),
         _ => read_register(s, at, request, file),
     }
 }
@@ -242,27 +263,15 @@ fn read_line(s: &[u8], request: Request, file: &mut [u8], words: &mut [u32]) -> 
     }
 }
 
-// The place past the line feed of the line at `at`.
-fn next_line(text: &[u8], at: usize) -> usize
-    requires { ⌜ at < length (now text) ⌝ }
-    ensures { λ r. ⌜ (at < r) × (r ≤ length (now (text .entry))) ⌝ }
-{
-    let mut i = at;
-    while i < text.len() && text[i] != b'\n' {
-        i += 1;
-    }
-    if i < text.len() { i + 1 } else { text.len() }
-}
-
 // The request at the text's end. An empty text has one empty line.
-fn whole(request: Request, line: u64) -> Parsed {
+fn whole(request: Request, line: u64, end: usize) -> Parsed {
     if request.given {
         return Parsed::Taken(request);
     }
     if line == 0 {
-        return Parsed::Wrong(LENGTH_MISSING, 1);
+        return Parsed::Wrong(LENGTH_MISSING, 1, end);
     }
-    Parsed::Wrong(LENGTH_MISSING, line)
+    Parsed::Wrong(LENGTH_MISSING, line, end)
 }
 
 // Reads the text, and puts its words and registers where they go.
@@ -283,7 +292,7 @@ pub fn read_text(text: &[u8], file: &mut [u8], words: &mut [u32]) -> Parsed {
         let said = read_line(&text[at..end], request, file, words);
         match said {
             Said::Wrong(fault) => {
-                return Parsed::Wrong(fault, line);
+                return Parsed::Wrong(fault, line, at);
             }
             Said::Fine(more) => {
                 request = more;
@@ -291,5 +300,5 @@ pub fn read_text(text: &[u8], file: &mut [u8], words: &mut [u32]) -> Parsed {
         }
         at = end;
     }
-    whole(request, line)
+    whole(request, line, at)
 }

@@ -6,6 +6,7 @@ use crate::fault::NOT_HEXADECIMAL;
 use crate::fault::NUMBER_MISSING;
 use crate::fault::WORD_MISSING;
 use crate::fault::WORD_TOO_LONG;
+use text::digit_value;
 
 // Past the end stands a line feed.
 pub fn byte_at(s: &[u8], at: usize) -> u8 {
@@ -58,6 +59,11 @@ pub fn next_word(s: &[u8], at: usize) -> usize {
     skip_spaces(s, i)
 }
 
+// The place of a line's second word.
+pub fn second_word(s: &[u8]) -> usize {
+    next_word(s, skip_spaces(s, 0))
+}
+
 // Is this the word at `at`?
 pub fn spells(s: &[u8], at: usize, word: &[u8]) -> bool {
     let mut place = at;
@@ -85,13 +91,7 @@ struct Digits {
 
 // The value of the digit at `at`, and 16 for any other byte.
 fn digit_at(s: &[u8], at: usize) -> u8 {
-    let b = byte_at(s, at);
-    match b {
-        b'0'..=b'9' => b - 48,
-        b'A'..=b'F' => b - 55,
-        b'a'..=b'f' => b - 87,
-        _ => 16,
-    }
+    digit_value(byte_at(s, at))
 }
 
 // One digit more, of base 10 or 16. From 2^32 on, above every limit here, the value stays.

@@ -11,7 +11,7 @@ use Rattle.isa.specs.Decode.{decodeOf}
 use Rattle.isa.specs.declared.types.Op.{Op}
 use Rattle.isa.specs.declared.types.Decoded.{Decoded}
 use Rattle.isa.specs.Bytes.{wordAt, wordsOf}
-use Rattle.listing.specs.Listing.{ascii, operationName, nameOf, hexOf, lineOf, linesOf}
+use Rattle.listing.specs.Listing.{ascii, operationName, nameOf, hexOf, wordLine, linesOf}
 use Rattle.listing.specs.Call.{Wrote}
 use Rattle.listing.proofs.WithText.{wrote-none, wrote-then}
 use Rattle.isa.proofs.Bytes.{words-length, words-at}
@@ -36,8 +36,8 @@ hex-length : (w : ℕ) → length (hexOf w ++ ascii " ") ≡ 9
 unfolding hexOf
 hex-length w = refl
 
-pub line-short : (w : ℕ) → length (lineOf w) ≤ 21
-unfolding lineOf
+pub line-short : (w : ℕ) → length (wordLine w) ≤ 21
+unfolding wordLine
 line-short w =
     omega (
       arith,
@@ -50,8 +50,8 @@ line-short w =
 -- the digits, the name and the line's end, one after the other
 pub line-wrote : {out : List ℕ} {at : ℕ} {hex : List ℕ} {n : ℕ} {out₁ name : List ℕ} {m : ℕ} {out₂ : List ℕ} {r : ℕ} {out₃ : List ℕ} (w : ℕ)
     → at + 21 ≤ length out → hex ≡ hexOf w ++ ascii " " → name ≡ nameOf (decodeOf w)
-    → Wrote out at hex n out₁ → Wrote out₁ n name m out₂ → Wrote out₂ m (ascii "\n") r out₃ → Wrote out at (lineOf w) r out₃
-unfolding lineOf
+    → Wrote out at hex n out₁ → Wrote out₁ n name m out₂ → Wrote out₂ m (ascii "\n") r out₃ → Wrote out at (wordLine w) r out₃
+unfolding wordLine
 line-wrote {out} {at} {hex} {n} {out₁} {name} {m} {out₂} {r} {out₃} w h e f x y z =
     let x′ : Wrote out at (hexOf w ++ ascii " ") n out₁ = subst (λ (s : List ℕ). Wrote out at s n out₁) e x in
     let y′ : Wrote out₁ n (nameOf (decodeOf w)) m out₂ = subst (λ (s : List ℕ). Wrote out₁ n s m out₂) f y in
@@ -62,20 +62,20 @@ line-wrote {out} {at} {hex} {n} {out₁} {name} {m} {out₂} {r} {out₃} w h e 
 pub lines-append : (a b : List ℕ) → linesOf (a ++ b) ≡ linesOf a ++ linesOf b
 unfolding linesOf
 lines-append [] b = refl
-lines-append (w ∷ a) b = rw (lines-append a b) (sym (append-assoc (lineOf w) (linesOf a) (linesOf b)))
+lines-append (w ∷ a) b = rw (lines-append a b) (sym (append-assoc (wordLine w) (linesOf a) (linesOf b)))
 
 pub lines-short : (ws : List ℕ) → length (linesOf ws) ≤ 21 * length ws
 unfolding linesOf
 lines-short [] = lit≤ tt
-lines-short (w ∷ ws) = omega (arith, length-append (lineOf w) (linesOf ws), line-short w, lines-short ws)
+lines-short (w ∷ ws) = omega (arith, length-append (wordLine w) (linesOf ws), line-short w, lines-short ws)
 
-lines-more : (ws : List ℕ) (k : ℕ) → k < length ws → linesOf (take (k + 1) ws) ≡ linesOf (take k ws) ++ lineOf (getD ws k 0)
+lines-more : (ws : List ℕ) (k : ℕ) → k < length ws → linesOf (take (k + 1) ws) ≡ linesOf (take k ws) ++ wordLine (getD ws k 0)
 unfolding linesOf
 lines-more ws k h =
     ap (λ (n : ℕ). linesOf (take n ws)) (add-one k)
     ∙ ap linesOf (take-suc ws k 0 h)
     ∙ lines-append (take k ws) (getD ws k 0 ∷ [])
-    ∙ ap (λ (s : List ℕ). linesOf (take k ws) ++ s) (append-nil (lineOf (getD ws k 0)))
+    ∙ ap (λ (s : List ℕ). linesOf (take k ws) ++ s) (append-nil (wordLine (getD ws k 0)))
 
 -- the loop: the lines of the words passed are in place
 pub record Putting (bytes out₀ : List ℕ) (count : ℕ) (out : List ℕ) (at k : ℕ) : Type 0 where
@@ -94,12 +94,12 @@ word-place bytes k h l = omega arith
 
 pub putting-on : {bytes out₀ : List ℕ} {count : ℕ} {out : List ℕ} {at k word next : ℕ} {out₁ : List ℕ} → Putting bytes out₀ count out at k
     → k < count → count ≤ length bytes / 4 → 21 * count ≤ length out₀ → length bytes < 2 ^ 64
-    → word ≡ wordAt bytes (k * 4 % 2 ^ 64) → length out₁ ≡ length out → Wrote out at (lineOf word) next out₁
+    → word ≡ wordAt bytes (k * 4 % 2 ^ 64) → length out₁ ≡ length out → Wrote out at (wordLine word) next out₁
     → Putting bytes out₀ count out₁ next (k + 1)
 putting-on {bytes} {out₀} {count} {out} {at} {k} {word} {next} {out₁} p h c r l e s w =
     let ws : List ℕ = wordsOf bytes in
     let is : word ≡ getD ws k 0 = e ∙ ap (wordAt bytes) (word-place bytes k (omega arith) l) ∙ words-at bytes k (omega arith) in
-    let w′ : Wrote out at (lineOf (getD ws k 0)) next out₁ = subst (λ (x : ℕ). Wrote out at (lineOf x) next out₁) is w in
+    let w′ : Wrote out at (wordLine (getD ws k 0)) next out₁ = subst (λ (x : ℕ). Wrote out at (wordLine x) next out₁) is w in
     let short = line-short (getD ws k 0) in
     let many = words-length bytes in
     let past = w′ .past in

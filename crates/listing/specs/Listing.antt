@@ -51,12 +51,12 @@ nameOf (Decoded.Operation op) = ascii (operationName op)
 nameOf Decoded.Reserved = ascii "RESERVED"
 nameOf Decoded.Outside = ascii "OUTSIDE"
 
-unfoldable pub lineOf : ℕ → List ℕ
-lineOf w = hexOf w ++ ascii " " ++ nameOf (decodeOf w) ++ ascii "\n"
+unfoldable pub wordLine : ℕ → List ℕ
+wordLine w = hexOf w ++ ascii " " ++ nameOf (decodeOf w) ++ ascii "\n"
 
 unfoldable pub linesOf : List ℕ → List ℕ
 linesOf [] = []
-linesOf (w ∷ ws) = lineOf w ++ linesOf ws
+linesOf (w ∷ ws) = wordLine w ++ linesOf ws
 
 abbrev pub pickText : Bool → List ℕ → List ℕ → List ℕ
 pickText true a b = a

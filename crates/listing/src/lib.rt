@@ -4,7 +4,7 @@ ghost use mathlib.Core.List.{_++_};
 ghost use Prim.Native.Nat.{_+_, _-_, _*_, _/_, _<_, _≤_};
 ghost use lib.Dec.{leb, ltb};
 ghost use lib.ListN.{length, take};
-ghost use Rattle.listing.specs.Listing.{ascii, hexDigit, hexOf, operationName, nameOf, lineOf, linesOf, decimalOf, countLine, tailLine, limit, overOf, lastOf, moreOf};
+ghost use Rattle.listing.specs.Listing.{ascii, hexDigit, hexOf, operationName, nameOf, wordLine, linesOf, decimalOf, countLine, tailLine, limit, overOf, lastOf, moreOf};
 ghost use Rattle.listing.specs.Call.{Wrote, nameAt, textOutcome, outcomeOfPart};
 ghost use Rattle.isa.specs.Bytes.{wordsOf};
 ghost use Rattle.isa.specs.Decode.{decodeOf};
@@ -106,7 +106,7 @@ fn put_name(out: &mut [u8], at: usize, n: usize) -> usize
 
 fn put_line(out: &mut [u8], at: usize, word: u32) -> usize
     requires { ⌜ at + 21 ≤ length (now out) ⌝ }
-    ensures { λ r. ⌜ Wrote (now (out .entry)) at (lineOf word) r (now (out .exit)) ⌝ }
+    ensures { λ r. ⌜ Wrote (now (out .entry)) at (wordLine word) r (now (out .exit)) ⌝ }
 {
     let hex = hex_of(word);
     let name = put_text(out, at, &hex);

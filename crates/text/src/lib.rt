@@ -1,5 +1,7 @@
 // Text in a lent buffer. Each function takes the place to write at, and answers the place past what it wrote.
 // What does not fit is dropped; a program's buffers have room for the longest that it says.
+ghost use Prim.Native.Nat.{_<_, _≤_};
+ghost use lib.ListN.{length};
 
 pub fn put_byte(out: &mut [u8], at: usize, b: u8) -> usize {
     if at < out.len() {
@@ -43,6 +45,16 @@ pub fn put_number(out: &mut [u8], at: usize, name: &[u8], n: u64) -> usize {
     put_text(out, named, &digits[..k])
 }
 
+// The value of a hexadecimal digit of either case, and 16 for any other byte.
+pub fn digit_value(b: u8) -> u8 {
+    match b {
+        b'0'..=b'9' => b - 48,
+        b'A'..=b'F' => b - 55,
+        b'a'..=b'f' => b - 87,
+        _ => 16,
+    }
+}
+
 fn glyph(d: u8) -> u8 {
     if d < 10 { 48 + d } else { 55 + d % 16 }
 }
@@ -58,6 +70,18 @@ pub fn put_word(out: &mut [u8], at: usize, word: u32) -> usize {
     let second = put_hex(out, first, (word / 65536 % 256) as u8);
     let third = put_hex(out, second, (word / 256 % 256) as u8);
     put_hex(out, third, (word % 256) as u8)
+}
+
+// The place past the line feed of the line at `at`.
+pub fn next_line(text: &[u8], at: usize) -> usize
+    requires { ⌜ at < length (now text) ⌝ }
+    ensures { λ r. ⌜ (at < r) × (r ≤ length (now (text .entry))) ⌝ }
+{
+    let mut i = at;
+    while i < text.len() && text[i] != b'\n' {
+        i += 1;
+    }
+    if i < text.len() { i + 1 } else { text.len() }
 }
 
 // Writes the first n bytes, or all where there are fewer.

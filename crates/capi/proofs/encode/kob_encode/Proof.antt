@@ -1,5 +1,6 @@
 use mathlib.Core.Path.{ap, _∙_}
-use Rattle.capi.specs.Encode.{namedOf, namedPacked}
+use Rattle.fields.specs.Named.{namedOf}
+use Rattle.capi.specs.Encode.{namedPacked}
 use Rattle.capi.proofs.Named.{encode-refused, encode-eight}
 use borrow.Author.Needs.{needs}
 use Rattle.capi.proofs.encode.kob_encode.Statement.{statement}

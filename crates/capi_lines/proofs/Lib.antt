@@ -1,0 +1,3 @@
+pub mod Short
+pub mod Called
+pub mod RoundTrip

@@ -1,0 +1,4 @@
+pub mod Put
+pub mod Named
+pub mod RoundTrip
+pub mod Back

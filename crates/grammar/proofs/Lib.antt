@@ -1,0 +1,15 @@
+pub mod Prefix
+pub mod Guess
+pub mod Follow
+pub mod Apart
+pub mod Search
+pub mod Alphabet
+pub mod Patterns
+pub mod Remakes
+pub mod Lines
+pub mod Examples
+pub mod Packed
+pub mod Written
+pub mod Returned
+pub mod Width
+pub mod Groups

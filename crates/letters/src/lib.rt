@@ -1,0 +1,3 @@
+// What the letters of a template stand for, and the patterns of the grammar, as the code holds them.
+pub mod templates;
+pub mod texts;
