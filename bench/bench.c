@@ -70,6 +70,14 @@ static const struct row {
     {"SQRDMLSH .S scalar", 0x7F80F000, 0x200800},
     {"SQRDMLSH .S 64", 0x2F80F000, 0x200800},
     {"SQRDMLSH .S 128", 0x6F80F000, 0x200800},
+    {"SQDMULH two .B", 0xC120A400, 0},
+    {"SQDMULH two .H", 0xC160A400, 0},
+    {"SQDMULH two .S", 0xC1A0A400, 0},
+    {"SQDMULH two .D", 0xC1E0A400, 0},
+    {"SQDMULH four .B", 0xC120AC00, 0},
+    {"SQDMULH four .H", 0xC160AC00, 0},
+    {"SQDMULH four .S", 0xC1A0AC00, 0},
+    {"SQDMULH four .D", 0xC1E0AC00, 0},
     {"all, mixed", 0, 0},
 };
 
@@ -85,10 +93,19 @@ static uint64_t next(void)
     return seed * 0x2545F4914F6CDD1D;
 }
 
+/* A group that starts behind 7, and of which the second source is none. */
+static uint32_t group_word(const struct row *row, uint32_t m)
+{
+    uint32_t d = 8 + next() % 24;
+    return row->base | m << 16 | (d & (row->base >> 11 & 1 ? 0x1C : 0x1E));
+}
+
 /* The second source stays within 7, which every row has room for. */
 static uint32_t word_of(const struct row *row)
 {
     uint32_t m = next() >> 61, n, d;
+    if (row->base >> 24 == 0xC1)
+        return group_word(row, m);
     do
         n = next() >> 59;
     while (n == m);

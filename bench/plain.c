@@ -1,4 +1,4 @@
-/* A plain C implementation of document 01's run, of request A9's replay and of request A10's stream: the
+/* A plain C implementation of document 01's run, of request A3's SQDMULH, A9's replay and A10's stream: the
  * yardstick for the library's speed, and one of the two programs that the harness compares it with.
  *
  * Written for speed as portable C goes: a switch over the words, and a loop for each family, width
@@ -9,7 +9,7 @@
 
 #include <string.h>
 
-enum { CADD, SQCADD, CMLA, CMLA_I, SQRDCMLAH, SQRDCMLAH_I, SQRDMLAH, SQRDMLSH };
+enum { CADD, SQCADD, CMLA, CMLA_I, SQRDCMLAH, SQRDCMLAH_I, SQRDMLAH, SQRDMLSH, SQDMULH };
 enum { B, H, S, D };
 enum { SCALAR, VECTOR_64, VECTOR_128 };
 enum { DONE, BAD_LENGTH, BAD_SIZE, TOO_LONG, OUTSIDE, RESERVED, NOT_POWER_OF_TWO = 11 };
@@ -99,6 +99,20 @@ static inline int decode_element(uint32_t word, unsigned form, struct op *op)
     }
 }
 
+static inline int decode_group(uint32_t word, struct op *op)
+{
+    switch (word & 0xFF30FFE1) {
+    case 0xC120A400: op->form = 2; break;
+    case 0xC120AC00: op->form = 4; break;
+    default: return OUTSIDE;
+    }
+    op->family = SQDMULH;
+    op->size = bits(word, 22, 2);
+    op->m = bits(word, 16, 4);
+    op->d = bits(word, 0, 5);
+    return op->d % op->form == 0 ? DONE : OUTSIDE;
+}
+
 /* 0, 4 or 5. The fields that the family does not use are left as they are. */
 static inline int decode(uint32_t word, struct op *op)
 {
@@ -108,6 +122,7 @@ static inline int decode(uint32_t word, struct op *op)
     case 0x2F: return decode_element(word, VECTOR_64, op);
     case 0x6F: return decode_element(word, VECTOR_128, op);
     case 0x7F: return decode_element(word, SCALAR, op);
+    case 0xC1: return decode_group(word, op);
     default: return OUTSIDE;
     }
 }
@@ -225,6 +240,26 @@ uint32_t plain_decode(uint32_t word, uint32_t fields[8])
                               unsigned turns)                                                      \
     {                                                                                              \
         turned_##X(d, n, m, bytes, true, turns);                                                   \
+    }                                                                                              \
+                                                                                                   \
+    /* Twice the product over 2^N, rounding down; the lowest number by itself alone leaves the     \
+     * range, at the top */                                                                        \
+    static inline T doubled_##X(T n, T m)                                                          \
+    {                                                                                              \
+        const W most = (W)(((U)-1) >> 1);                                                          \
+        W high = (W)((W)n * m) >> (8 * sizeof(T) - 1);                                             \
+        return (T)(high > most ? most : high);                                                     \
+    }                                                                                              \
+                                                                                                   \
+    /* By a copy of the second source, for it may be one of the group */                           \
+    static void sqdmulh_##X(uint8_t *d, const uint8_t *m, size_t bytes, unsigned form)             \
+    {                                                                                              \
+        uint8_t factor[MOST_FILE / 32];                                                            \
+        size_t lanes = bytes / sizeof(T);                                                          \
+        memcpy(factor, m, bytes);                                                                  \
+        for (size_t at = 0; at < form * lanes; at += lanes)                                        \
+            for (size_t e = 0; e < lanes; e++)                                                     \
+                put_##X(d, at + e, doubled_##X(get_##X(d, at + e), get_##X(factor, e)));           \
     }
 
 LANES(b, int8_t, uint8_t, int16_t)
@@ -337,6 +372,10 @@ static bool step(const struct op *op, uint8_t *file, size_t bytes, bool qc)
     case 4 * SQRDMLAH + S: qc |= sqrdml_s(d, n, m, bytes, op->form, op->index, false); break;
     case 4 * SQRDMLSH + H: qc |= sqrdml_h(d, n, m, bytes, op->form, op->index, true); break;
     case 4 * SQRDMLSH + S: qc |= sqrdml_s(d, n, m, bytes, op->form, op->index, true); break;
+    case 4 * SQDMULH + B: sqdmulh_b(d, m, bytes, op->form); break;
+    case 4 * SQDMULH + H: sqdmulh_h(d, m, bytes, op->form); break;
+    case 4 * SQDMULH + S: sqdmulh_s(d, m, bytes, op->form); break;
+    case 4 * SQDMULH + D: sqdmulh_d(d, m, bytes, op->form); break;
     }
     return qc;
 }

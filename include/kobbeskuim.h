@@ -1,5 +1,5 @@
 /*
- * Kobbeskuim: AArch64's saturating complex vector instructions.
+ * Kobbeskuim: AArch64's saturating complex vector instructions, and SME2's SQDMULH.
  *
  * Every call is proved to meet its contract for every input, to stay inside the
  * memory that it is lent, and to end. None has a precondition but C's own: a
@@ -30,9 +30,9 @@ extern "C" {
 #define KOB_CAST(type, value) ((type)(value))
 #endif
 
-#define KOB_VERSION "0.5.0"
+#define KOB_VERSION "0.6.0"
 #define KOB_VERSION_MAJOR 0
-#define KOB_VERSION_MINOR 5
+#define KOB_VERSION_MINOR 6
 #define KOB_VERSION_PATCH 0
 
 /* ---- limits */
@@ -63,7 +63,7 @@ extern "C" {
 #define KOB_CASES_MAX 1024
 
 /* The bytes of the longest line. */
-#define KOB_LINE_MAX 38
+#define KOB_LINE_MAX 47
 
 /* The bytes of a stream's state. */
 #define KOB_STREAM_SIZE 20544
@@ -84,6 +84,7 @@ extern "C" {
 #define KOB_NOT_POWER_OF_TWO 11 /* but a multiple of 128 from 128 to 2,048 */
 #define KOB_NOT_A_LINE 12
 #define KOB_NO_LINE_ROOM 13
+#define KOB_GROUP_START 14
 #define KOB_BAD_CONTENTS 15
 #define KOB_BAD_TOTAL 16
 #define KOB_BAD_FLAG 17 /* a verdict, not a refusal */
@@ -110,6 +111,7 @@ static inline const char *kob_text(unsigned number) {
     case KOB_NOT_POWER_OF_TWO: return "length not a power of two";
     case KOB_NOT_A_LINE: return "not a line";
     case KOB_NO_LINE_ROOM: return "room shorter than the line";
+    case KOB_GROUP_START: return "first register not a multiple of its group's two or four";
     case KOB_BAD_CONTENTS: return "contents cut short or not allowed";
     case KOB_BAD_TOTAL: return "trace above 64 KiB or not as long as its contents say";
     case KOB_BAD_FLAG: return "flag neither 0 nor 1";
@@ -158,12 +160,13 @@ static inline size_t kob_register_length(uint64_t answer) { return answer >> 40;
 
 /* An operation is eight numbers. What its family does not use is 0. */
 #define KOB_FIELDS 8
-#define KOB_FAMILY 0      /* KOB_CADD to KOB_SQRDMLSH */
+#define KOB_FAMILY 0      /* KOB_CADD to KOB_SQDMULH */
 #define KOB_SIZE 1        /* KOB_SIZE_B to KOB_SIZE_D */
-#define KOB_FORM 2        /* KOB_SCALAR to KOB_VECTOR_128; SQRDMLAH and SQRDMLSH only */
-#define KOB_TURNS 3       /* the rotation in quarter turns, 0 to 3; all but SQRDMLAH and SQRDMLSH */
-#define KOB_DESTINATION 4 /* Zdn, Zda or Rd */
-#define KOB_FIRST 5       /* Zn or Rn; CADD and SQCADD have none, for Zdn is their first source */
+#define KOB_FORM 2        /* SQRDMLAH and SQRDMLSH: KOB_SCALAR to KOB_VECTOR_128;
+                           * SQDMULH: 2 or 4, the registers of its group */
+#define KOB_TURNS 3       /* the rotation in quarter turns, 0 to 3; all but SQRDMLAH, SQRDMLSH and SQDMULH */
+#define KOB_DESTINATION 4 /* Zdn, Zda or Rd; SQDMULH: the first register of its group */
+#define KOB_FIRST 5       /* Zn or Rn; CADD, SQCADD and SQDMULH have none, for Zdn is their first source */
 #define KOB_SECOND 6      /* Zm or Rm */
 #define KOB_INDEX 7       /* CMLA-I, SQRDCMLAH-I, SQRDMLAH and SQRDMLSH only */
 
@@ -175,6 +178,7 @@ static inline size_t kob_register_length(uint64_t answer) { return answer >> 40;
 #define KOB_SQRDCMLAH_I 5
 #define KOB_SQRDMLAH 6
 #define KOB_SQRDMLSH 7
+#define KOB_SQDMULH 8
 
 #define KOB_SIZE_B 0 /* elements of 8 bits */
 #define KOB_SIZE_H 1 /* 16 */
@@ -196,13 +200,14 @@ uint32_t kob_decode(uint32_t word, uint32_t *fields, size_t length);
 /*
  * The word of the operation that the fields name.
  *
- * KOB_BAD_FIELDS: the length is not KOB_FIELDS. KOB_NO_OPERATION: a family above 7,
- * a size above 3, a form above 2, turns above 3, or a field that the family does
- * not use and that is not 0. Then the first of
+ * KOB_BAD_FIELDS: the length is not KOB_FIELDS. KOB_NO_OPERATION: a family above 8,
+ * a size above 3, a form that the family has not, turns above 3, or a field that the
+ * family does not use and that is not 0. Then the first of
  *   KOB_NO_SIZE: only H and S for the indexed families, SQRDMLAH and SQRDMLSH;
  *   KOB_NO_ROTATION: only 90 and 270 degrees, turns 1 and 3, for CADD and SQCADD;
  *   KOB_REGISTER_LIMIT: registers are at most 31, and the second source at most
- *     7 (indexed H), 15 (indexed S, and SQRDMLAH and SQRDMLSH at H);
+ *     7 (indexed H), 15 (indexed S, SQDMULH, and SQRDMLAH and SQRDMLSH at H);
+ *   KOB_GROUP_START: SQDMULH's first register is a multiple of 2 or 4, as its form;
  *   KOB_INDEX_LIMIT: the index is at most 3 and 1 (indexed H and S), 7 and 3
  *     (SQRDMLAH and SQRDMLSH at H and S).
  * Or KOB_DONE.
@@ -225,7 +230,8 @@ static inline uint32_t kob_encode_word(uint64_t answer) { return KOB_CAST(uint32
  *   SQCADD Z0.B, Z0.B, Z1.B, #90
  *   SQRDCMLAH Z0.H, Z1.H, Z2.H[3], #90
  *   SQRDMLSH V0.4H, V1.4H, V2.H[7]
- *   SQRDMLSH H0, H1, V2.H[7] */
+ *   SQRDMLSH H0, H1, V2.H[7]
+ *   SQDMULH { Z0.H-Z1.H }, { Z0.H-Z1.H }, Z2.H */
 
 /*
  * Writes the line of the operation that the fields name to the start of `out`; what
@@ -234,7 +240,7 @@ static inline uint32_t kob_encode_word(uint64_t answer) { return KOB_CAST(uint32
  * The number is the first of
  *   KOB_BAD_FIELDS: the length is not KOB_FIELDS;
  *   KOB_NO_OPERATION, KOB_NO_SIZE, KOB_NO_ROTATION, KOB_REGISTER_LIMIT,
- *     KOB_INDEX_LIMIT: as kob_encode gives it;
+ *     KOB_GROUP_START, KOB_INDEX_LIMIT: as kob_encode gives it;
  *   KOB_NO_LINE_ROOM: `room` is less than the line's length. KOB_LINE_MAX is enough
  *     for every line.
  * With these nothing is written. Or KOB_DONE.

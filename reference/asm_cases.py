@@ -23,7 +23,7 @@ def files(source):
     yield "crates/assemble/stdin", text
     yield "crates/assemble/stdout", assembly.as_bytes(words)
 
-    words = [word for word, _ in model.P1_TO_P7] + list(source.mix(500))
+    words = [word for word, _ in model.WORDS] + list(source.mix(500))
     data = struct.pack(f"<{len(words)}I", *words)
     yield "crates/disassemble/stdin", data
     yield "crates/disassemble/stdout", assembly.disassemble(data)[0]

@@ -26,10 +26,10 @@ import run_cases
 import store
 import traces
 import verdicts
-from model import ELEMENT, INDEXED, TABLE, H, Operation, S
+from model import ELEMENT, GROUPS, INDEXED, TABLE, H, Operation, S
 
 ROOT = Path(__file__).resolve().parent.parent
-REGISTERS = {"Zdn", "Zda", "Zn", "Zm", "Rd", "Rn", "Rm"}
+REGISTERS = {"Zdn", "Zda", "Zn", "Zm", "Rd", "Rn", "Rm", "Zdn/2", "Zdn/4"}
 
 
 class Source:
@@ -48,12 +48,17 @@ class Source:
         """A word of the row with any fields."""
         return row.base | self.below(2**32) & row.free
 
+    def within(self, kind):
+        """An operation of the kind with every register and the index within its limit."""
+        op = Operation(*kind, 0, 0, 0, 0)._replace(**{name: self.below(limit + 1) for name, limit in model.used(kind)})
+        return op._replace(destination=op.destination - op.destination % model.step_of(op.family, op.form))
+
     def mix(self, count):
         """Words of which three in four belong to a row, each row as often as the others."""
         random, rows = self.random, TABLE
         for _ in range(count):
             word = int(random() * 2**32)
-            at = int(random() * 16)
+            at = int(random() * len(rows) * 4 / 3)
             yield rows[at].base | word & rows[at].free if at < len(rows) else word
 
 
@@ -63,7 +68,7 @@ class Source:
 def words():
     source = Source(1)
     yield from (0, 0xFFFFFFFF)
-    yield from (word for word, _ in model.P1_TO_P7)
+    yield from (word for word, _ in model.WORDS)
     yield from (2**bit for bit in range(32))
     for row in TABLE:
         # Every value of the small fields (size, rot, Q, L, M, H, index) with each register field at
@@ -97,17 +102,7 @@ def words():
 
 def operations():
     source = Source(2)
-    kinds = list(model.kinds())
-
-    def within(kind):
-        """An operation of the kind with every register and the index within its limit."""
-        limits = model.limits_of(*kind[:2])
-        return Operation(*kind, *(0 if limit is None else source.below(limit + 1) for limit in limits))
-
-    def used(kind):
-        """The register and index fields of the kind, with their limits."""
-        limits = zip(Operation._fields[4:], model.limits_of(*kind[:2]))
-        return [(name, limit) for name, limit in limits if limit is not None]
+    kinds, within, used = list(model.kinds()), source.within, model.used
 
     for kind in kinds:
         for name, limit in used(kind):
@@ -125,6 +120,11 @@ def operations():
         for index, second in product(range(10), (0, 7, 8, 15, 16, 31, 32)):
             kind = source.choose([kind for kind in kinds if kind[:2] == (family, size)])
             yield within(kind)._replace(second=second, index=index)
+
+    # Every first register of a group, and those above the limit, with the second source on either side of its own.
+    for kind in (kind for kind in kinds if kind[0] in GROUPS):
+        for destination, second in product(range(36), (0, 15, 16)):
+            yield within(kind)._replace(destination=destination, second=second)
 
     for _ in range(1200):
         kind = source.choose(kinds)
@@ -180,7 +180,7 @@ def files():
     yield from stored("replay_cases", list(replay_cases.cases(Source(6), Source(7))))  # a put may come twice
 
     source = Source(3)
-    listed = [word for word, _ in model.P1_TO_P7] + list(source.mix(2000))
+    listed = [word for word, _ in model.WORDS] + list(source.mix(2000))
     data = struct.pack(f"<{len(listed)}I", *listed) + b"\x00\xd8\x01"
     yield "crates/list/stdin", data
     yield "crates/list/stdout", model.listing(data)

@@ -1,7 +1,7 @@
 #!/usr/bin/env python3
 """The independent model of the register file, the step and the run, for any legal length.
 
-Written from document 01 and the requests A2 and A5 alone, over the models of words and lanes. A file is
+Written from document 01 and the requests A2, A3 and A5 alone, over the models of words and lanes. A file is
 bytes and is never changed in place. Run as a program it checks itself, demand 3 on random programs included.
 """
 
@@ -12,7 +12,7 @@ from typing import NamedTuple
 sys.dont_write_bytecode = True  # the repository stays as it was
 import lanes
 import model
-from model import ELEMENT, SQRDCMLAH_I, H, Operation
+from model import ELEMENT, GROUPS, SQDMULH, SQRDCMLAH_I, H, Operation
 
 MULTIPLES = range(128, 2049, 128)
 LENGTHS = tuple(length for length in MULTIPLES if length & length - 1 == 0)  # the powers of two
@@ -66,6 +66,9 @@ def step(op, length, file, flag):
         low, clamped = lanes.by_element(op, c[:16], n[:16], m[:16])
         held[op.destination] = low.ljust(len(c), b"\0")  # V is written, and the rest of Z becomes zero
         flag = flag or clamped
+    elif op.family in GROUPS:
+        group = slice(op.destination, op.destination + op.form)
+        held[group] = [lanes.by_single(op, one, m) for one in held[group]]  # m as it was, also where it is one of them
     else:
         held[op.destination] = lanes.vector(op, c, n, m)
     return b"".join(held), flag
@@ -171,6 +174,19 @@ def self_check():
     word = model.encode(Operation(SQRDCMLAH_I, H, 0, 0, 0, 1, 2, 3))[1]
     wanted = lanes.data_of([3, 300] * 4 + [7, 700] * 4, 16)
     expect("index 3 at L = 256", register(256, run(256, file, False, [word]).file, 0), (DONE, wanted))
+
+    # A3: the second source in each place of the group, before it and behind it, is read as it was; no other
+    # register changes, and QC stays though lanes clamp.
+    for length in LENGTHS:
+        held = [lanes.data_of([-32768, 256 * n, -1, 1] * (length // 64), 16) for n in range(32)]
+        for count, second in [(2, m) for m in range(3, 7)] + [(4, m) for m in range(3, 9)]:
+            word = model.encode(Operation(SQDMULH, H, count, 0, 4, 0, second, 0))[1]
+            left = held[:]
+            for n in range(4, 4 + count):
+                left[n] = lanes.data_of([32767, 2 * n * second, 0, 0] * (length // 64), 16)
+            for flag in (False, True):
+                found = run(length, b"".join(held), flag, [word])
+                expect(f"{count} from 4 on by {second} at {length}", found, (DONE, 1, flag, b"".join(left)))
 
     # Demand 3.
     random = Random(1).random

@@ -1,9 +1,9 @@
 """The stored cases of the program kernel_cases: what every kernel makes of 16 bytes.
 
 A record is 52 bytes: family, size, quarter turns (by element: form) and index, then 16 bytes each of
-the addend c, the first source n and the second source m. For CADD and SQCADD the first source is c,
-and n is zeros. A line of the answer has the 16 bytes in memory order; by element, also whether a
-lane clamped.
+the addend c, the first source n and the second source m. For CADD, SQCADD and SQDMULH the first source is
+c, and n is zeros. A line of the answer has the 16 bytes in memory order; by element, also whether a
+lane clamped. SQDMULH does the same to each register of a group: here that is one.
 """
 
 from itertools import product
@@ -11,7 +11,7 @@ from itertools import product
 import lanes
 import model
 from lanes import Pair
-from model import ADDS, ELEMENT, INDEXED, H, Operation
+from model import ADDS, DESTRUCTIVE, ELEMENT, GROUPS, INDEXED, H, Operation
 
 
 def operations():
@@ -35,6 +35,8 @@ class Maker:
         self.source, self.op, self.bits = source, op, lanes.bits_of(op)
         self.count = 128 // self.bits
         self.edges = edges(self.bits)
+        # Where a product's quotient goes over to the next number: halfway where it is rounded.
+        self.turn = self.bits - (1 if op.family in GROUPS else 2)
 
     # -- one number
 
@@ -62,8 +64,13 @@ class Maker:
     def mixed(self):
         return self.all(lambda: self.edge() if self.source.below(2) else self.random())
 
+    def factors(self, c, n, m):
+        """SQDMULH's first factor stands in c."""
+        return (n, c, m) if self.op.family in GROUPS else (c, n, m)
+
     def ties(self):
-        """Twice a product is half of 2^N over a multiple of it, or the product is one under or over."""
+        """Twice a product is half of 2^N over a multiple of it (SQDMULH: a multiple), or the product is one
+        under or over."""
         c, n, m = self.mixed()
         one_for_all = self.op.family in INDEXED + ELEMENT
         for p in range(0, self.count, 2):
@@ -73,18 +80,22 @@ class Maker:
             for e in (p, p + 1):
                 m[e] = b if self.source.below(2) or b == self.edges[0] else -b
                 n[e] = self.cofactor(b, zeros)
-        return c, n, m
+        return self.factors(c, n, m)
 
     def cofactor(self, b, zeros):
         """A number whose product with b, which ends in so many zeros, is a tie, or beside one."""
-        tie, whole = 2 ** (self.bits - 2), 2 ** (self.bits - 1)
+        whole = 2 ** (self.bits - 1)
         if zeros:
-            return self.odd(zeros + 2) << (self.bits - 2 - zeros)
+            return self.odd(zeros + self.bits - self.turn) << (self.turn - zeros)
         beside = self.source.choose((-1, 0, 1))
-        return (tie + beside) * pow(b, -1, whole) % whole - self.source.choose((0, whole))
+        return (2**self.turn + beside) * pow(b, -1, whole) % whole - self.source.choose((0, whole))
 
     def bounds(self):
-        """The addend brings the sum to an end of the range, or one or two to either side of it."""
+        """The addend brings the sum to an end of the range, or one or two to either side of it; of SQDMULH,
+        which has none, both factors are there."""
+        if self.op.family in GROUPS:
+            ends = self.edges[0], self.edges[-1]
+            return self.all(lambda: lanes.clamp(self.source.choose(ends) + self.source.below(5) - 2, self.bits))
         _, n, m = self.all(self.edge if self.source.below(2) else self.random)
         comes = self.comes(n, m)
         c = [self.source.choose((self.edges[0], self.edges[-1])) - x for x in comes]
@@ -111,7 +122,7 @@ class Maker:
         """Most factors are the least number, whose square leaves the range by one when rounded."""
         c, _, _ = self.mixed()
         _, n, m = self.all(lambda: self.edges[0] if self.source.below(4) else self.edge())
-        return c, n, m
+        return self.factors(c, n, m)
 
     def coinciding(self):
         """c and n one register, c and m, n and m, and all three."""
@@ -132,7 +143,7 @@ class Maker:
                     yield c, n, m
             return
         crossed = self.op.turns % 2
-        for factor in [0] if self.op.family in ADDS else self.edges:
+        for factor in [0] if self.op.family in DESTRUCTIVE else self.edges:
             for at in range(0, len(squares), self.count):
                 c, n, m = self.all(self.edge)
                 for e, (x, y) in enumerate(squares[at : at + self.count]):
@@ -162,12 +173,14 @@ def case(op, c, n, m):
     if op.family in ELEMENT:
         made, clamped = lanes.by_element(op, c, n, m)
         return record, f"{made.hex()} {int(clamped)}\n"
+    if op.family in GROUPS:
+        return record, f"{lanes.by_single(op, c, m).hex()}\n"
     return record, f"{lanes.vector(op, c, n, m).hex()}\n"
 
 
 def cases(source):
     for op in operations():
         for c, n, m in Maker(source, op).cases():
-            if op.family in ADDS:
+            if op.family in DESTRUCTIVE:
                 n = [0] * len(n)
             yield case(op, *(lanes.data_of(x, lanes.bits_of(op)) for x in (c, n, m)))

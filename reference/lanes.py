@@ -1,9 +1,9 @@
 #!/usr/bin/env python3
 """The independent model of what a lane becomes, in unbounded integers, lane by lane.
 
-Written from document 01, 'What a lane becomes', alone. A register is bytes; its elements are signed numbers,
-and a complex number is an even (real) and odd (imaginary) pair of them. Run as a program it checks
-itself and says so.
+Written from document 01, 'What a lane becomes', and from request A3 alone. A register is bytes; its elements
+are signed numbers, and a complex number is an even (real) and odd (imaginary) pair of them. Run as a program
+it checks itself and says so.
 """
 
 import sys
@@ -42,6 +42,11 @@ def clamp(x, bits):
 def rounded(c, product, bits):
     """c x 2^N plus twice the product, plus 2^(N-1), divided by 2^N rounding down: as // does."""
     return (c * 2**bits + 2 * product + 2 ** (bits - 1)) // 2**bits
+
+
+def doubled_high(product, bits):
+    """Twice the product, divided by 2^N rounding down. Nothing is added before."""
+    return 2 * product // 2**bits
 
 
 # ---- document 01's rules for a complex number, by quarter turns
@@ -113,6 +118,13 @@ def vector(op, c, n, m):
     return data_of([part for pair in worked for part in pair], bits)
 
 
+def by_single(op, c, m):
+    """SQDMULH: the new bytes of a register of the group, from its own and those of the second source."""
+    bits = bits_of(op)
+    factors = zip(elements(c, bits), elements(m, bits))
+    return data_of([clamp(doubled_high(x * y, bits), bits) for x, y in factors], bits)
+
+
 def by_element(op, c, n, m):
     """An Advanced SIMD family, from 16 bytes each: the new 16 bytes, and whether a lane clamped."""
     bits = bits_of(op)
@@ -128,7 +140,7 @@ def by_element(op, c, n, m):
 
 
 def self_check():
-    """The faults found, a line each: document 01's P8 to P12, and the clamp at its two ends."""
+    """The faults found, a line each: document 01's P8 to P12, A3's lane, and the clamp at its two ends."""
     faults = []
 
     def expect(what, found, wanted):
@@ -172,6 +184,30 @@ def self_check():
                 element(family, form, c, factor, factor),
                 (data_of(lanes, 16), clamps),
             )
+
+    # A3: at both ends of the range, and rounding down at negative values. Only the first clamps.
+    for size, bits in enumerate((8, 16, 32, 64)):
+        op = Operation(model.SQDMULH, size, 2, 0, 0, 0, 0, 0)
+        low, high = lowest(bits), highest(bits)
+        for x, y, wanted, exact in (
+            (low, low, high, high + 1),
+            (low, low + 1, high, high),
+            (low, high, low + 1, low + 1),
+            (high, high, high - 1, high - 1),
+            (low, 1, -1, -1),
+            (low, -1, 1, 1),
+            (-1, 1, -1, -1),
+            (-1, -1, 0, 0),
+            (high, 1, 0, 0),
+            (high, -1, -1, -1),
+            (low // 2, low // 2, -low // 4, -low // 4),
+            (low, 0, 0, 0),
+        ):
+            count = 128 // bits
+            for one, other in ((x, y), (y, x)):
+                made = by_single(op, data_of([one] * count, bits), data_of([other] * count, bits))
+                expect(f"{one} by {other} in {bits} bits", elements(made, bits), [wanted] * count)
+            expect(f"{x} by {y} in {bits} bits, exactly", doubled_high(x * y, bits), exact)
 
     for bits in (8, 16, 32, 64):
         for x in (lowest(bits), -1, 0, 1, highest(bits)):

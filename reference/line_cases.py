@@ -14,13 +14,13 @@ from itertools import combinations, product
 import lines
 import model
 from lines import BY_HAND, LONGEST, NO_LINES
-from model import ADDS, Operation
+from model import ADDS, FOUR, GROUPS, TWO
 
 READ, WRITE = 1, 2  # the kinds
 MOST_TEXT, BUFFER, UNTOUCHED = 1024, 64, b"~"
 NUMBERS = (0, 7, 8, 9, 10, 15, 16, 31)
-MNEMONICS = (b"CADD", b"SQCADD", b"CMLA", b"SQRDCMLAH", b"SQRDMLAH", b"SQRDMLSH")
-OTHER_NAMES = (b"FCMLA", b"CMLA-I", b"SQRDCMLAH-I", b"SQRDMULH", b"ADD", b"cadd", b"")
+MNEMONICS = tuple(dict.fromkeys(name.removesuffix("-I").encode("ascii") for name in model.NAMES))
+OTHER_NAMES = (b"FCMLA", b"CMLA-I", b"SQRDCMLAH-I", b"SQRDMULH", b"SQDMULL", b"ADD", b"cadd", b"")
 WRONG_NUMBERS = (b"", b"00", b"32", b"99", b"256", b"4294967296", b"-1", b"1 ")
 DEGREES = (b"", b"0", b"00", b"1", b"45", b"9", b"90", b"090", b"180", b"270", b"271", b"360", b"450", b"-90")
 BEHIND = (b" ", b"\n", b"\r\n", b"\0", b"]", b",", b", #90", b"0", b"[0]", b"//", b"\xff")
@@ -54,31 +54,21 @@ class Maker:
     def turned(self, kind):
         return *kind[:3], self.source.choose(model.turns_of(kind[0]))
 
-    def within(self, kind):
-        """An operation of the kind with every register and the index within its limit."""
-        limits = model.limits_of(*kind[:2])
-        return Operation(*kind, *(0 if limit is None else self.source.below(limit + 1) for limit in limits))
-
-    def used(self, kind):
-        """The register and index fields of the kind, with their limits."""
-        limits = zip(Operation._fields[4:], model.limits_of(*kind[:2]))
-        return [(name, limit) for name, limit in limits if limit is not None]
-
     # -- texts
 
     def edges(self):
         """Each register and the index at its edges, and past its limit."""
         for shape in self.shapes:
-            for name, limit in self.used(shape):
+            for name, limit in model.used(shape):
                 for value in sorted({*NUMBERS, limit, limit + 1, 10 * limit}):
-                    yield lines.line(self.within(self.turned(shape))._replace(**{name: value}))
+                    yield lines.line(self.source.within(self.turned(shape))._replace(**{name: value}))
 
     def turns(self):
         """Every kind, with the rotations of no family too."""
         for kind in self.kinds:
-            yield lines.line(self.within(kind))
+            yield lines.line(self.source.within(kind))
         for shape in self.shapes:
-            text = lines.line(self.within(shape))
+            text = lines.line(self.source.within(shape))
             if b"#" in text:
                 yield from (text[: text.index(b"#") + 1] + one for one in DEGREES)
 
@@ -88,6 +78,14 @@ class Maker:
         for one, other in product(some, some):
             pattern = lines.pattern_of(*self.turned((self.source.choose(ADDS), self.source.below(4), 0, 0)))
             yield pattern % (one, other, self.source.below(32))
+
+    def groups(self):
+        """A group that starts anywhere and ends anywhere behind, and is another the second time."""
+        for start, more in product((0, 1, 2, 3, 4, 8, 9, 10, 12, 27, 28, 29, 30, 31), range(5)):
+            kind = self.source.choose(GROUPS), self.source.below(4), self.source.choose((TWO, FOUR)), 0
+            others = (start, start + more), (start, start + 1), (start, start + 3), (start + 2, start + 2 + more)
+            for again in others:
+                yield lines.pattern_of(*kind) % (start, start + more, *again, self.source.below(17))
 
     def numbers(self):
         """Each number of the examples with a zero in front, and others in its place."""
@@ -121,7 +119,7 @@ class Maker:
         return replaced(text, at, at + self.source.below(2), self.other(text[at]))
 
     def random(self):
-        return lines.line(self.within(self.source.choose(self.kinds)))
+        return lines.line(self.source.within(self.source.choose(self.kinds)))
 
     def bytes(self):
         """One byte changed, put in, doubled or left out, and all beginnings."""
@@ -168,6 +166,7 @@ class Maker:
         yield from self.edges()
         yield from self.turns()
         yield from self.destinations()
+        yield from self.groups()
         yield from self.numbers()
         yield from self.letters()
         yield from self.names()
@@ -185,7 +184,7 @@ class Maker:
 
     def rooms(self):
         for kind in self.kinds:
-            op = self.within(kind)
+            op = self.source.within(kind)
             yield from ((op, room) for room in self.around(op))
         for op in (lines.read(min(EXAMPLES, key=len))[1], lines.read(max(EXAMPLES, key=len))[1]):
             yield from ((op, room) for room in range(BUFFER + 1))
@@ -193,30 +192,31 @@ class Maker:
     def limits(self):
         """Each field at its edges and past its limit; and several, of which the first check that fails tells."""
         for shape in self.shapes:
-            for name, limit in self.used(shape):
+            for name, limit in model.used(shape):
                 past = (limit, limit + 1, self.source.choose((255, 256, 256 + limit, 2**31, 2**32 - 1)))
                 for value in past:
-                    yield self.within(self.turned(shape))._replace(**{name: value}), self.source.choose((0, BUFFER))
-            for both in combinations(self.used(shape), 2):
-                op = self.within(shape)._replace(**{name: limit + 1 for name, limit in both})
+                    op = self.source.within(self.turned(shape))._replace(**{name: value})
+                    yield op, self.source.choose((0, BUFFER))
+            for both in combinations(model.used(shape), 2):
+                op = self.source.within(shape)._replace(**{name: limit + 1 for name, limit in both})
                 yield op, self.source.choose((0, BUFFER))
 
     def lacked(self):
         """Sizes and rotations that the family lacks, with fields within and past their limits."""
         for kind in model.kinds():
             if kind not in self.kinds:
-                op = self.within(kind)
-                name, limit = self.source.choose(self.used(kind))
+                op = self.source.within(kind)
+                name, limit = self.source.choose(model.used(kind))
                 yield op, BUFFER
                 yield op._replace(**{name: limit + 1}), 0
 
     def edge_numbers(self):
         """One and two digits in each place."""
         for shape in self.shapes:
-            for name, limit in self.used(shape):
+            for name, limit in model.used(shape):
                 for value in (9, 10, 19, 20, 29, 30):
                     if value <= limit:
-                        yield self.within(self.turned(shape))._replace(**{name: value}), BUFFER
+                        yield self.source.within(self.turned(shape))._replace(**{name: value}), BUFFER
 
     def written(self):
         yield from self.rooms()

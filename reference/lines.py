@@ -1,7 +1,7 @@
 #!/usr/bin/env python3
 """The independent model of lines: the line of an operation, and the operation of a line.
 
-Written from request A1 and Arm's pages alone. Nothing here takes a text apart: every line is written down
+Written from the requests A1 and A3 and Arm's pages alone. Nothing here takes a text apart: every line is written down
 once, and to read a text is to look it up among them. The longest beginning that some line has is shared
 with one of the text's two neighbours in their sorted order. Run as a program it checks itself and says so.
 """
@@ -10,16 +10,17 @@ import sys
 from bisect import bisect
 from functools import cache
 from itertools import chain, product
+from math import prod
 from os.path import commonprefix
 
 sys.dont_write_bytecode = True  # the repository stays as it was
 import model
-from model import ADDS, CADD, CMLA, CMLA_I, DONE, ELEMENT, INDEXED, INDEX_ABOVE, NAMES, NO_ROTATION, NO_SIZE
-from model import REGISTER_ABOVE, SCALAR, SQCADD, SQRDCMLAH, SQRDCMLAH_I, SQRDMLAH, SQRDMLSH, TABLE
-from model import VECTOR_64, VECTOR_128, B, D, H, Operation, S
+from model import ADDS, CADD, CMLA, CMLA_I, DESTRUCTIVE, DONE, ELEMENT, FOUR, GROUPS, GROUP_START, INDEXED, INDEX_ABOVE
+from model import NAMES, NO_ROTATION, NO_SIZE, REGISTER_ABOVE, SCALAR, SQCADD, SQDMULH, SQRDCMLAH, SQRDCMLAH_I, SQRDMLAH
+from model import SQRDMLSH, TABLE, TWO, VECTOR_64, VECTOR_128, B, D, H, Operation, S
 
 NOT_A_LINE, NO_LINE_ROOM = 12, 13
-LONGEST = 38
+LONGEST = 47
 
 
 # ---- the line of an operation
@@ -32,6 +33,9 @@ def operands_of(family, size, form):
         lanes = {VECTOR_64: 64, VECTOR_128: 128}.get(form, 0) // (8 << size)
         register = f"V%d.{lanes}{letter}" if lanes else f"{letter}%d"
         return [register, register, f"V%d.{letter}[%d]"]
+    if family in GROUPS:
+        group = f"{{ Z%d.{letter}-Z%d.{letter} }}"
+        return [group, group, f"Z%d.{letter}"]
     element = "[%d]" if family in INDEXED else ""
     return [f"Z%d.{letter}", f"Z%d.{letter}", f"Z%d.{letter}{element}"]
 
@@ -39,49 +43,58 @@ def operands_of(family, size, form):
 @cache
 def pattern_of(family, size, form, turns):
     operands = operands_of(family, size, form)
-    if family not in ELEMENT:
+    if model.has_turns(family):
         operands.append(f"#{90 * turns}")
     return f"{NAMES[family].removesuffix('-I')} {', '.join(operands)}".encode("ascii")
 
 
+def named(family, form, destination, first, second, index):
+    """The numbers of a line. What is the first source too is named twice, and of a group the first and the last."""
+    if family in GROUPS:
+        return *(destination, destination + form - 1) * 2, second
+    return destination, destination if family in ADDS else first, second, index
+
+
 def line(op):
-    """Of an operation that can be written. CADD and SQCADD have the destination as first source too."""
-    numbers = op.destination, op.destination if op.family in ADDS else op.first, op.second, op.index
+    """Of an operation that can be written."""
     pattern = pattern_of(*op[:4])
-    return pattern % numbers[: pattern.count(b"%d")]
+    return pattern % named(op.family, op.form, *op[4:])[: pattern.count(b"%d")]
 
 
 # ---- every line
 
-# By document 01's table: registers and indices, times the sizes, rotations and forms, times the families.
+# By document 01's table and A3's: registers and indices, times the sizes, rotations and forms, times the families.
 ADD_LINES = 2 * 4 * 2 * 32**2
 VECTOR_LINES = 2 * 4 * 4 * 32**3
 INDEXED_LINES = 2 * 4 * 32**2 * (8 * 4 + 16 * 2)
 ELEMENT_LINES = 2 * 3 * 32**2 * (16 * 8 + 32 * 4)
-LINES = ADD_LINES + VECTOR_LINES + INDEXED_LINES + ELEMENT_LINES
+GROUP_LINES = 4 * 16 * (32 // 2 + 32 // 4)
+LINES = ADD_LINES + VECTOR_LINES + INDEXED_LINES + ELEMENT_LINES + GROUP_LINES
 
 
 @cache
 def blocks():
-    """Family, size, form and turns, in the order of the fields, each with how many values the registers and
-    the index have."""
+    """Family, size, form and turns, in the order of the fields, each with the values of the registers and the
+    index."""
     made = []
     for family, size in product(range(len(NAMES)), (B, H, S, D)):
         if size in model.sizes_of(family):
-            counts = [1 if limit is None else limit + 1 for limit in model.limits_of(family, size)]
-            kinds = product(model.forms_of(family), model.turns_of(family))
-            made += [((family, size, form, turns), counts) for form, turns in kinds]
+            last, *rest = (limit or 0 for limit in model.limits_of(family, size))
+            for form, turns in product(model.forms_of(family), model.turns_of(family)):
+                starts = range(0, last + 1, model.step_of(family, form))
+                made.append(((family, size, form, turns), [starts, *(range(limit + 1) for limit in rest)]))
     return made
 
 
-def block(kind, counts):
+def block(kind, values):
     """The lines of a block, as line(op) has each, in the order of the fields."""
-    destinations, _, seconds, _ = ranges = [range(count) for count in counts]
     pattern = pattern_of(*kind)
-    if kind[0] in ADDS:
-        numbers = ((one, one, other) for one, other in product(destinations, seconds))
-    else:
-        numbers = product(*ranges[: pattern.count(b"%d")])
+    count = pattern.count(b"%d")
+    family, _, form, _ = kind
+    if family in DESTRUCTIVE:
+        numbers = (named(family, form, *fields)[:count] for fields in product(*values))
+    else:  # the same, for most lines are here
+        numbers = product(*values[:count])
     return map(pattern.__mod__, numbers)
 
 
@@ -94,12 +107,14 @@ def places():
 
 def operation_at(place):
     """The operation of a place in that order."""
-    for kind, (destinations, firsts, seconds, indices) in blocks():
-        lines = destinations * firsts * seconds * indices
+    for kind, values in blocks():
+        lines = prod(map(len, values))
         if place < lines:
-            place, index = divmod(place, indices)
-            place, second = divmod(place, seconds)
-            return Operation(*kind, *divmod(place, firsts), second, index)
+            fields = []
+            for some in reversed(values):
+                place, at = divmod(place, len(some))
+                fields.insert(0, some[at])
+            return Operation(*kind, *fields)
         place -= lines
     return None
 
@@ -135,7 +150,7 @@ def read(text):
 
 # ---- the model's own checks
 
-# Written by hand: A1's three, and one for each form of the pages.
+# Written by hand: A1's three, A3's, and one for each form of the pages.
 BY_HAND = [
     (b"SQRDCMLAH Z0.H, Z1.H, Z2.H[3], #90", Operation(SQRDCMLAH_I, H, 0, 1, 0, 1, 2, 3)),
     (b"SQRDMLSH V0.4H, V1.4H, V2.H[7]", Operation(SQRDMLSH, H, VECTOR_64, 0, 0, 1, 2, 7)),
@@ -151,6 +166,11 @@ BY_HAND = [
     (b"SQRDMLAH V4.8H, V5.8H, V15.H[6]", Operation(SQRDMLAH, H, VECTOR_128, 0, 4, 5, 15, 6)),
     (b"SQRDMLAH V1.2S, V2.2S, V16.S[0]", Operation(SQRDMLAH, S, VECTOR_64, 0, 1, 2, 16, 0)),
     (b"SQRDMLSH V1.4S, V2.4S, V3.S[2]", Operation(SQRDMLSH, S, VECTOR_128, 0, 1, 2, 3, 2)),
+    (b"SQDMULH { Z0.H-Z1.H }, { Z0.H-Z1.H }, Z2.H", Operation(SQDMULH, H, TWO, 0, 0, 0, 2, 0)),
+    (b"SQDMULH { Z8.B-Z9.B }, { Z8.B-Z9.B }, Z9.B", Operation(SQDMULH, B, TWO, 0, 8, 0, 9, 0)),
+    (b"SQDMULH { Z0.H-Z3.H }, { Z0.H-Z3.H }, Z2.H", Operation(SQDMULH, H, FOUR, 0, 0, 0, 2, 0)),
+    (b"SQDMULH { Z8.S-Z11.S }, { Z8.S-Z11.S }, Z0.S", Operation(SQDMULH, S, FOUR, 0, 8, 0, 0, 0)),
+    (b"SQDMULH { Z28.D-Z31.D }, { Z28.D-Z31.D }, Z15.D", Operation(SQDMULH, D, FOUR, 0, 28, 0, 15, 0)),
 ]
 
 # The beginning that some line has, and what no line has behind it.
@@ -184,6 +204,27 @@ NO_LINES = [
     (b"SQRDMLSH H0, ", b"S1, V2.H[7]"),
     (b"SQRDMLSH S0, S1, V16.S[", b"4]"),
     (b"SQRDMLSH S0, S1, V16.S[3]", b", #90"),
+    (b"SQDMULH ", b"Z0.H, Z0.H, Z2.H"),
+    (b"SQDMULH {", b"Z0.H-Z1.H }, {Z0.H-Z1.H }, Z2.H"),
+    (b"SQDMULH { Z1", b".H-Z2.H }, { Z1.H-Z2.H }, Z2.H"),
+    (b"SQDMULH { Z0.H", b", Z1.H }, { Z0.H, Z1.H }, Z2.H"),
+    (b"SQDMULH { Z0.H", b" - Z3.H }, { Z0.H - Z3.H }, Z2.H"),
+    (b"SQDMULH { Z0.H-Z", b"2.H }, { Z0.H-Z2.H }, Z2.H"),
+    (b"SQDMULH { Z2.H-Z", b"5.H }, { Z2.H-Z5.H }, Z2.H"),
+    (b"SQDMULH { Z4.H-Z", b"4.H }, { Z4.H-Z4.H }, Z2.H"),
+    (b"SQDMULH { Z0.H-Z1.", b"S }, { Z0.H-Z1.S }, Z2.H"),
+    (b"SQDMULH { Z0.H-Z1.H", b"}, { Z0.H-Z1.H }, Z2.H"),
+    (b"SQDMULH { Z0.H-Z1.H }, ", b"Z2.H"),
+    (b"SQDMULH { Z0.H-Z1.H }, { Z", b"2.H-Z3.H }, Z2.H"),
+    (b"SQDMULH { Z0.H-Z1.H }, { Z0.H-Z", b"3.H }, Z2.H"),
+    (b"SQDMULH { Z0.H-Z3.H }, { Z0.H-Z", b"1.H }, Z2.H"),
+    (b"SQDMULH { Z28.H-Z3", b"2.H }, { Z28.H-Z32.H }, Z2.H"),
+    (b"SQDMULH { Z3", b"1.H-Z0.H }, { Z31.H-Z0.H }, Z2.H"),
+    (b"SQDMULH { Z0.H-Z1.H }, { Z0.H-Z1.H }, Z1", b"6.H"),
+    (b"SQDMULH { Z0.H-Z1.H }, { Z0.H-Z1.H }, ", b"{ Z2.H-Z3.H }"),
+    (b"SQDMULH { Z0.H-Z1.H }, { Z0.H-Z1.H }, Z2.H", b"[0]"),
+    (b"SQDMULH { Z0.H-Z1.H }, { Z0.H-Z1.H }, Z2.H", b", #0"),
+    (b"SQDM", b"LAH Z0.H, Z0.H, Z2.H"),
 ]
 
 REFUSED = [
@@ -192,6 +233,9 @@ REFUSED = [
     (Operation(CMLA_I, H, 0, 0, 0, 0, 8, 4), 0, REGISTER_ABOVE),
     (Operation(CMLA_I, S, 0, 0, 0, 0, 15, 2), 0, INDEX_ABOVE),
     (Operation(CMLA_I, S, 0, 0, 0, 0, 15, 1), 28, NO_LINE_ROOM),
+    (Operation(SQDMULH, B, TWO, 0, 1, 0, 16, 0), 0, REGISTER_ABOVE),
+    (Operation(SQDMULH, B, FOUR, 0, 30, 0, 15, 0), 0, GROUP_START),
+    (Operation(SQDMULH, B, FOUR, 0, 28, 0, 15, 0), 46, NO_LINE_ROOM),
 ]
 
 
@@ -217,10 +261,10 @@ def self_check():
 
     # As many as there are words that are not reserved; of the by-element rows every other size is.
     words = sum(2 ** bin(row.free).count("1") // (2 if row.family in ELEMENT else 1) for row in TABLE)
-    expect("lines by document 01's table of words", words, LINES)
+    expect("lines by the table of words", words, LINES)
     expect("lines", len(places()), LINES)
     expect("the longest", max(map(len, places())), LONGEST)
-    expect("their bytes", bytes(sorted(set().union(*places()))), b" #,.0123456789ABCDHLMQRSVZ[]")
+    expect("their bytes", bytes(sorted(set().union(*places()))), b" #,-.0123456789ABCDHLMQRSUVZ[]{}")
 
     # Every so many lines, and the last of each block, are the lines of their operations.
     for place, text in enumerate(places()):

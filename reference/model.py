@@ -1,8 +1,8 @@
 #!/usr/bin/env python3
 """The independent model of Kobbeskuim's words: decode, encode and the listing.
 
-Written from document 01 alone, with unbounded integers. It shares nothing with the Rattle code, so
-a mistake has to be made twice to go unseen. Run as a program it checks itself and says so.
+Written from document 01 and request A3 alone, with unbounded integers. It shares nothing with the Rattle code,
+so a mistake has to be made twice to go unseen. Run as a program it checks itself and says so.
 """
 
 import struct
@@ -11,19 +11,22 @@ from itertools import product
 from random import Random
 from typing import NamedTuple
 
-# The families, in the order in which document 01 lists their names.
-NAMES = ["CADD", "SQCADD", "CMLA", "CMLA-I", "SQRDCMLAH", "SQRDCMLAH-I", "SQRDMLAH", "SQRDMLSH"]
-CADD, SQCADD, CMLA, CMLA_I, SQRDCMLAH, SQRDCMLAH_I, SQRDMLAH, SQRDMLSH = range(8)
+# The families, in the order in which document 01 lists their names, and A3's behind them.
+NAMES = ["CADD", "SQCADD", "CMLA", "CMLA-I", "SQRDCMLAH", "SQRDCMLAH-I", "SQRDMLAH", "SQRDMLSH", "SQDMULH"]
+CADD, SQCADD, CMLA, CMLA_I, SQRDCMLAH, SQRDCMLAH_I, SQRDMLAH, SQRDMLSH, SQDMULH = range(9)
 ADDS = (CADD, SQCADD)
 INDEXED = (CMLA_I, SQRDCMLAH_I)
 ELEMENT = (SQRDMLAH, SQRDMLSH)
+GROUPS = (SQDMULH,)
+DESTRUCTIVE = ADDS + GROUPS  # the destination is the first source
 
 B, H, S, D = range(4)
 SCALAR, VECTOR_64, VECTOR_128 = range(3)
+TWO, FOUR = 2, 4
 
 RESERVED, OUTSIDE = "reserved", "outside"
 
-DONE, NO_SIZE, NO_ROTATION, REGISTER_ABOVE, INDEX_ABOVE = 0, 7, 8, 9, 10
+DONE, NO_SIZE, NO_ROTATION, REGISTER_ABOVE, INDEX_ABOVE, GROUP_START = 0, 7, 8, 9, 10, 14
 
 LIMIT = 1_048_576  # words that the listing program lists
 
@@ -33,15 +36,15 @@ class Operation(NamedTuple):
 
     family: int
     size: int  # B, H, S, D
-    form: int  # of the by-element families: scalar, 64 bits, 128 bits
+    form: int  # of the by-element families: scalar, 64 bits, 128 bits; of SQDMULH: the registers of its group
     turns: int  # the rotation in quarter turns
-    destination: int  # Zdn, Zda or Rd; for CADD and SQCADD also the first source
+    destination: int  # Zdn, Zda or Rd, of a group the first; for CADD, SQCADD and SQDMULH also the first source
     first: int  # Zn or Rn
     second: int  # Zm or Rm
     index: int
 
 
-# ---- document 01's table of words
+# ---- document 01's table of words, and A3's two rows
 
 ADD_FIELDS = "size 23-22, rot 10, Zm 9-5, Zdn 4-0"
 VECTOR_FIELDS = "size 23-22, Zm 20-16, rot 11-10, Zn 9-5, Zda 4-0"
@@ -49,6 +52,8 @@ INDEXED_H_FIELDS = "i2 20-19, Zm 18-16, rot 11-10, Zn 9-5, Zda 4-0"
 INDEXED_S_FIELDS = "i1 20, Zm 19-16, rot 11-10, Zn 9-5, Zda 4-0"
 SCALAR_FIELDS = "size 23-22, L 21, M 20, Rm 19-16, H 11, Rn 9-5, Rd 4-0"
 ELEMENT_FIELDS = SCALAR_FIELDS + ", Q 30"
+TWO_FIELDS = "size 23-22, Zm 19-16, Zdn/2 4-1"
+FOUR_FIELDS = "size 23-22, Zm 19-16, Zdn/4 4-2"
 
 
 class Row:
@@ -91,6 +96,8 @@ TABLE = [
     Row(SQRDMLAH, 0x7F00D000, SCALAR_FIELDS),
     Row(SQRDMLSH, 0x2F00F000, ELEMENT_FIELDS),
     Row(SQRDMLSH, 0x7F00F000, SCALAR_FIELDS),
+    Row(SQDMULH, 0xC120A400, TWO_FIELDS),
+    Row(SQDMULH, 0xC120AC00, FOUR_FIELDS),
 ]
 
 
@@ -125,6 +132,9 @@ def decode(word):
         else:
             return RESERVED
         return Operation(row.family, f["size"], form, 0, f["Rd"], f["Rn"], second, index)
+    if row.family in GROUPS:
+        form, start = (TWO, f["Zdn/2"]) if "Zdn/2" in f else (FOUR, f["Zdn/4"])
+        return Operation(row.family, f["size"], form, 0, form * start, 0, f["Zm"], 0)
     return Operation(row.family, f["size"], 0, f["rot"], f["Zda"], f["Zn"], f["Zm"], 0)
 
 
@@ -139,11 +149,22 @@ def turns_of(family):
     """The rotations of a family, in quarter turns; 0 alone where it has none to choose."""
     if family in ADDS:
         return (1, 3)
-    return (0,) if family in ELEMENT else (0, 1, 2, 3)
+    return (0,) if family in ELEMENT + GROUPS else (0, 1, 2, 3)
+
+
+def has_turns(family):
+    return len(turns_of(family)) > 1
 
 
 def forms_of(family):
+    if family in GROUPS:
+        return (TWO, FOUR)
     return (SCALAR, VECTOR_64, VECTOR_128) if family in ELEMENT else (0,)
+
+
+def step_of(family, form):
+    """The destination is a multiple of this: of a group's two or four registers, and else any."""
+    return form if family in GROUPS else 1
 
 
 def limits_of(family, size):
@@ -154,11 +175,19 @@ def limits_of(family, size):
         return (31, 31, 7, 3) if size == H else (31, 31, 15, 1)
     if family in ELEMENT:
         return (31, 31, 15, 7) if size == H else (31, 31, 31, 3)
+    if family in GROUPS:
+        return 31, None, 15, None
     return 31, 31, 31, None
 
 
+def used(kind):
+    """The register and index fields of a kind, with their limits."""
+    limits = zip(Operation._fields[4:], limits_of(*kind[:2]))
+    return [(name, limit) for name, limit in limits if limit is not None]
+
+
 def refusal_of(op):
-    """Document 01's number for writing the operation, 7 to 10 in that order, or 0."""
+    """The number for writing the operation, the first of 7, 8, 9, 14 and 10, or 0."""
     if op.size not in sizes_of(op.family):
         return NO_SIZE
     if op.turns not in turns_of(op.family):
@@ -167,6 +196,8 @@ def refusal_of(op):
     destination, first, second, index = (limit or 0 for limit in limits_of(op.family, op.size))
     if op.destination > destination or op.first > first or op.second > second:
         return REGISTER_ABOVE
+    if op.destination % step_of(op.family, op.form):
+        return GROUP_START
     if op.index > index:
         return INDEX_ABOVE
     return DONE
@@ -179,6 +210,7 @@ def encode(op):
         return number, 0
     values = {"size": op.size, "rot": op.turns}
     values["Zdn"] = values["Zda"] = values["Rd"] = op.destination
+    values["Zdn/2"], values["Zdn/4"] = op.destination // 2, op.destination // 4
     values["Zn"] = values["Rn"] = op.first
     values["Zm"] = values["Rm"] = op.second
     values["i1"] = values["i2"] = op.index
@@ -196,6 +228,8 @@ def encode(op):
         else:
             values["H"], values["L"] = divmod(op.index, 2)
             values["M"], values["Rm"] = divmod(op.second, 16)
+    elif op.family in GROUPS:
+        row = rows[0] if op.form == TWO else rows[1]
     return DONE, row.write(values)
 
 
@@ -226,10 +260,10 @@ def listing(data):
 
 def kinds():
     """Every family, size, form and rotation that an operation can hold, lacked ones included."""
-    for family in range(8):
+    for family in range(len(NAMES)):
         for size in (B, H, S, D):
             for form in forms_of(family):
-                for turns in (0,) if family in ELEMENT else range(4):
+                for turns in range(4) if has_turns(family) else (0,):
                     yield family, size, form, turns
 
 
@@ -253,6 +287,36 @@ P1_TO_P7 = [
     (0x00000000, OUTSIDE),
 ]
 
+# What request A3 and its page say of particular words: the bases, a first register over 2 and over 4, and bit 5.
+A3_WORDS = [
+    (0xC120A400, Operation(SQDMULH, B, TWO, 0, 0, 0, 0, 0)),
+    (0xC120AC00, Operation(SQDMULH, B, FOUR, 0, 0, 0, 0, 0)),
+    (0xC162A400, Operation(SQDMULH, H, TWO, 0, 0, 0, 2, 0)),
+    (0xC1AFA41E, Operation(SQDMULH, S, TWO, 0, 30, 0, 15, 0)),
+    (0xC1E7A402, Operation(SQDMULH, D, TWO, 0, 2, 0, 7, 0)),
+    (0xC1EFAC1C, Operation(SQDMULH, D, FOUR, 0, 28, 0, 15, 0)),
+    (0xC1A4AC04, Operation(SQDMULH, S, FOUR, 0, 4, 0, 4, 0)),
+    (0xC120A420, OUTSIDE),
+    (0xC120AC20, OUTSIDE),
+    (0xC120A401, OUTSIDE),
+    (0xC120AC02, OUTSIDE),
+    (0xC130A400, OUTSIDE),
+]
+
+WORDS = P1_TO_P7 + A3_WORDS
+
+# Operations that A3 refuses to write: the first check that fails tells.
+A3_REFUSED = [
+    (Operation(SQDMULH, B, TWO, 0, 0, 0, 16, 0), REGISTER_ABOVE),
+    (Operation(SQDMULH, B, TWO, 0, 32, 0, 0, 0), REGISTER_ABOVE),
+    (Operation(SQDMULH, D, FOUR, 0, 33, 0, 0, 0), REGISTER_ABOVE),
+    (Operation(SQDMULH, D, FOUR, 0, 1, 0, 16, 0), REGISTER_ABOVE),
+    (Operation(SQDMULH, H, TWO, 0, 31, 0, 15, 0), GROUP_START),
+    (Operation(SQDMULH, H, TWO, 0, 1, 0, 0, 0), GROUP_START),
+    (Operation(SQDMULH, S, FOUR, 0, 2, 0, 0, 0), GROUP_START),
+    (Operation(SQDMULH, S, FOUR, 0, 30, 0, 15, 0), GROUP_START),
+]
+
 EXAMPLE = (
     bytes.fromhex("00D80145 00F0002F 00000000"),
     b"4501D800 SQCADD\n2F00F000 RESERVED\n00000000 OUTSIDE\nTOTAL 3\n",
@@ -267,10 +331,12 @@ def self_check():
         if found != wanted:
             faults.append(f"{what}: {found}, not {wanted}")
 
-    for word, answer in P1_TO_P7:
+    for word, answer in WORDS:
         expect(f"decode {word:08X}", decode(word), answer)
         if isinstance(answer, Operation):
             expect(f"encode {answer}", encode(answer), (DONE, word))
+    for op, number in A3_REFUSED:
+        expect(f"encode {op}", encode(op), (number, 0))
     data, text = EXAMPLE
     expect("document 01's listing", listing(data), text)
 
@@ -290,7 +356,9 @@ def self_check():
         if size not in sizes_of(family) or turns not in turns_of(family):
             continue
         limits = [limit or 0 for limit in limits_of(family, size)]
-        for fields in product(*map(edges, limits[:3]), range(limits[3] + 1)):
+        step = step_of(family, form)
+        starts = [step * start for start in edges(limits[0] // step)]
+        for fields in product(starts, *map(edges, limits[1:3]), range(limits[3] + 1)):
             op = Operation(family, size, form, turns, *fields)
             number, word = encode(op)
             expect(f"encode {op}", number, DONE)

@@ -19,7 +19,7 @@ import kernel_cases
 import lanes
 import model
 from execution import LENGTHS, MOST_WORDS, MULTIPLES
-from model import ADDS, ELEMENT, TABLE
+from model import ADDS, ELEMENT, GROUPS, TABLE
 
 MOST_BYTES = 4 * 2176  # of a file: that of the first multiple of 128 that is too long
 START = 0x9E3779B97F4A7C15
@@ -121,9 +121,10 @@ def register_case(length, size, n, seed):
 
 
 class Maker:
-    def __init__(self, source):
+    def __init__(self, source, families=range(len(model.NAMES))):
         self.source = source
-        self.operations = list(kernel_cases.operations())
+        self.operations = [op for op in kernel_cases.operations() if op.family in families]
+        self.families = [[op for op in self.operations if op.family == family] for family in families]
 
     def seeded(self, length, words, flag=None, size=None):
         if flag is None:
@@ -142,6 +143,7 @@ class Maker:
             limit = limit or 0
             choices = model.edges(limit) if self.source.below(2) else range(limit + 1)
             chosen.append(self.source.choose(choices))
+        chosen[0] -= chosen[0] % model.step_of(op.family, op.form)
         return op._replace(destination=chosen[0], first=chosen[1], second=chosen[2])
 
     def word(self, op):
@@ -162,9 +164,7 @@ class Maker:
 
     def good(self):
         """A word of any family, each as often as the others."""
-        family = self.source.below(8)
-        ops = [op for op in self.operations if op.family == family]
-        return self.word(self.registers(self.source.choose(ops)))
+        return self.word(self.registers(self.source.choose(self.source.choose(self.families))))
 
     # -- groups of cases
 
@@ -174,8 +174,8 @@ class Maker:
             yield self.seeded(length, [self.word(self.registers(op))], (at + k) % 2)
 
     def coinciding(self):
-        """Every operation with its registers one, in each way."""
-        for op in self.operations:
+        """Every operation with its registers one, in each way; but see placed."""
+        for op in (op for op in self.operations if op.family not in GROUPS):
             most = model.limits_of(op.family, op.size)[2]
             for same in ("dm",) if op.family in ADDS else ("dn", "dm", "nm", "dnm"):
                 one = self.source.below(most + 1)
@@ -188,11 +188,8 @@ class Maker:
 
     def aimed(self):
         """Ties, bounds and edges in a stored file: m, c and n in registers 0, 8 and 16 on."""
-        for op in self.operations:
-            maker = kernel_cases.Maker(self.source, op)
-            makers = [maker.bounds] * 4 + [maker.least] + [lambda: maker.all(maker.edge)]
-            makers += [maker.ties] * 2 if op.family not in ADDS else [maker.mixed] * 2
-            made = [[lanes.data_of(x, maker.bits) for x in make()] for make in makers]
+        for op in (op for op in self.operations if op.family not in GROUPS):
+            made = self.lanes(op)
             held = [m for _, _, m in made] + [c for c, _, _ in made] + [n for _, n, _ in made]
             rest = bytes(self.source.below(256) for _ in range(8 * 16))
             first = 0 if op.family in ADDS else 16
@@ -201,6 +198,33 @@ class Maker:
                 for k in range(8)
             ]
             yield case(128, 512, self.source.below(2), words, file=b"".join(held) + rest)
+
+    def lanes(self, op):
+        """Eight times 16 bytes of c, n and m, which the operation takes to ties, bounds and edges."""
+        maker = kernel_cases.Maker(self.source, op)
+        makers = [maker.bounds] * 4 + [maker.least] + [lambda: maker.all(maker.edge)]
+        makers += [maker.ties] * 2 if op.family not in ADDS else [maker.mixed] * 2
+        return [[lanes.data_of(x, maker.bits) for x in make()] for make in makers]
+
+    def groups(self):
+        """The same of groups: m in registers 0 on, c in a place of each group from register 8 on, the places in
+        turn."""
+        for op in (op for op in self.operations if op.family in GROUPS):
+            held = [bytes(self.source.below(256) for _ in range(16)) for _ in range(32)]
+            words = []
+            for k, (c, _, m) in zip(range(24 // op.form), self.lanes(op)):
+                start = 8 + op.form * k
+                held[k], held[start + k % op.form] = m, c
+                words.append(self.word(op._replace(destination=start, second=k)))
+            yield case(128, 512, self.source.below(2), words, file=b"".join(held))
+
+    def placed(self):
+        """Groups with the second source in each place, before the first and behind the last, at every length."""
+        for op in (op for op in self.operations if op.family in GROUPS):
+            for length, place in product(LENGTHS, range(-1, op.form + 1)):
+                start = op.form * (1 + self.source.below(12 // op.form - 1))
+                word = self.word(op._replace(destination=start, second=start + place))
+                yield self.seeded(length, [word], place % 2)
 
     def programs(self):
         """Several words, each working on what the one before left; some end in the middle."""
@@ -299,6 +323,8 @@ class Maker:
         yield from self.executed()
         yield from self.asked()
         yield from self.cleared()
+        yield from self.groups()
+        yield from self.placed()
 
 
 def cases(source):

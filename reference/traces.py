@@ -19,7 +19,7 @@ import model
 import replay
 import run_cases
 import store
-from model import SCALAR, VECTOR_128, B, D, H, Operation, S
+from model import FOUR, SCALAR, VECTOR_128, B, D, H, Operation, S
 from replay import AGREES, BAD_FLAG, FILE_DIFFERS, FLAG_DIFFERS, numbers
 
 FOLDER = Path(__file__).resolve().parent.parent / "examples/traces"
@@ -62,8 +62,8 @@ def places(trace, k):
 
 # ---- the examples
 
-# A word of each family.
-CADD, SQCADD, CMLA, CMLA_I, SQRDCMLAH, SQRDCMLAH_I, SQRDMLAH, SQRDMLSH = WORDS = [
+# A word of each family. SQDMULH has its second source in its group.
+CADD, SQCADD, CMLA, CMLA_I, SQRDCMLAH, SQRDCMLAH_I, SQRDMLAH, SQRDMLSH, SQDMULH = WORDS = [
     model.encode(op)[1]
     for op in (
         Operation(model.CADD, B, 0, 1, 0, 0, 1, 0),
@@ -74,6 +74,7 @@ CADD, SQCADD, CMLA, CMLA_I, SQRDCMLAH, SQRDCMLAH_I, SQRDMLAH, SQRDMLSH = WORDS =
         Operation(model.SQRDCMLAH_I, S, 0, 3, 12, 13, 14, 1),
         Operation(model.SQRDMLAH, H, VECTOR_128, 0, 15, 16, 1, 7),
         Operation(model.SQRDMLSH, S, SCALAR, 0, 17, 18, 19, 3),
+        Operation(model.SQDMULH, H, FOUR, 0, 12, 0, 13, 0),
     )
 ]
 OUTSIDE, RESERVED = 0x00000000, 0x2F00F000  # of P7

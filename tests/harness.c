@@ -93,17 +93,18 @@ static bool kept(struct area a, uint8_t *part, size_t bytes)
     return same;
 }
 
-/* ---- words: document 01's table, and the bits that belong to fields */
+/* ---- words: document 01's table and A3's, and the bits that belong to fields. Advanced SIMD's rows come last. */
 
 static const struct row {
     uint32_t base, fields;
 } rows[] = {
     {0x4500D800, 0x00C007FF}, {0x4501D800, 0x00C007FF}, {0x44002000, 0x00DF0FFF}, {0x44003000, 0x00DF0FFF},
     {0x44A06000, 0x001F0FFF}, {0x44E06000, 0x001F0FFF}, {0x44A07000, 0x001F0FFF}, {0x44E07000, 0x001F0FFF},
+    {0xC120A400, 0x00CF001E}, {0xC120AC00, 0x00CF001C},
     {0x2F00D000, 0x40FF0BFF}, {0x7F00D000, 0x00FF0BFF}, {0x2F00F000, 0x40FF0BFF}, {0x7F00F000, 0x00FF0BFF},
 };
 
-enum { SVE2_ROWS = 8, ROWS = 12 };
+enum { SVE2_ROWS = 10, ROWS = 14 };
 
 static uint32_t row_word(unsigned row)
 {
@@ -637,7 +638,7 @@ static void segment_case(void)
     size_t l = legal_length(), count = program(words, SVE2_ROWS);
     for (size_t k = 0; k < count; k++) { /* a damaged word can have become one */
         uint32_t fields[8];
-        if (plain_decode(words[k], fields) == 0 && fields[0] >= 6)
+        if (plain_decode(words[k], fields) == 0 && (fields[0] == KOB_SQRDMLAH || fields[0] == KOB_SQRDMLSH))
             words[k] = 0;
     }
     bool qc = one_in(2);
@@ -673,24 +674,31 @@ static void differ_line(const char *what, const uint32_t *f, const uint8_t *text
 /* The highest value of a field, where those before it are given. */
 static uint32_t most(const uint32_t f[FIELDS], int field)
 {
-    bool add = f[0] < 2, indexed = f[0] == 3 || f[0] == 5, element = f[0] > 5, h = f[1] == 1;
+    bool add = f[0] < 2, indexed = f[0] == 3 || f[0] == 5, element = f[0] == 6 || f[0] == 7, group = f[0] == 8;
+    bool h = f[1] == 1;
     switch (field) {
-    case 0: return 7;
+    case 0: return 8;
     case 1: return 3;
-    case 2: return element ? 2 : 0;
-    case 3: return element ? 0 : 3;
-    case 5: return add ? 0 : 31;
-    case 6: return indexed ? (h ? 7 : 15) : element && h ? 15 : 31;
+    case 2: return element ? 2 : group ? 4 : 0;
+    case 3: return element || group ? 0 : 3;
+    case 5: return add || group ? 0 : 31;
+    case 6: return indexed ? (h ? 7 : 15) : group || (element && h) ? 15 : 31;
     case 7: return indexed ? (h ? 3 : 1) : element ? (h ? 7 : 3) : 0;
     default: return 31;
     }
 }
 
-/* Whether the family has the size, or the rotation. */
+/* Whether the family has the size, the form or the rotation, and its group the first register. */
 static bool has(const uint32_t f[FIELDS], int field)
 {
-    bool narrow = f[0] == 3 || f[0] > 4;
-    return field == 1 ? !narrow || f[1] == 1 || f[1] == 2 : field == 3 ? f[0] > 1 || f[3] % 2 == 1 : true;
+    bool group = f[0] == 8, narrow = f[0] == 3 || (f[0] > 4 && !group);
+    switch (field) {
+    case 1: return !narrow || f[1] == 1 || f[1] == 2;
+    case 2: return !group || f[2] == 2 || f[2] == 4;
+    case 3: return f[0] > 1 || f[3] % 2 == 1;
+    case 4: return !group || f[4] % f[2] == 0;
+    default: return true;
+    }
 }
 
 /* The last bytes of an area, so that the next one cannot be touched. */
@@ -743,7 +751,7 @@ static void any_operation(uint32_t f[FIELDS])
 /* A text as it is; or bytes changed, put in, left out or added, or its end cut off. Its length. */
 static size_t damage_text(uint8_t *text, size_t length)
 {
-    static const uint8_t some[] = "0123456789,. #[]ABCDHLMQRSVZ\n";
+    static const uint8_t some[] = "0123456789,. #-[]{}ABCDHLMQRSUVZ\n";
     while (length > 1 && one_in(2)) {
         size_t at = below((uint32_t)length);
         uint8_t byte = one_in(4) ? next() >> 56 : some[below(sizeof some)];

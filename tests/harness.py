@@ -36,12 +36,12 @@ import stream
 import traces
 from cases import Source
 from execution import MOST_WORDS, MULTIPLES
-from model import ADDS, ELEMENT, INDEXED, Operation
+from model import ADDS, DESTRUCTIVE, Operation
 from replay import MOST_CASES
 
 TOLD = 10  # differences told in full
 BATCH = 100  # cases for one start of the driver
-NUMBERS = (0, 1, 2, 3, 4, 7, 8, 15, 16, 31, 32, 255, 256, 2**31, 2**32 - 1)  # either side of each limit
+NUMBERS = (0, 1, 2, 3, 4, 5, 7, 8, 15, 16, 31, 32, 255, 256, 2**31, 2**32 - 1)  # either side of each limit
 PATTERN = 0xA5  # what a lent buffer holds before the call
 END = 2**32 - 1  # among the sizes of a stream's pieces
 KEPT = b"\1"  # nothing outside of the lent parts was written
@@ -104,14 +104,12 @@ def decode_case(word, count):
 def names_operation(fields):
     """Whether family, size, form and turns are there, and what the family does not use is 0."""
     op = Operation(*fields)
-    if op.family > 7 or op.size > 3 or op.form > 2 or op.turns > 3:
+    if op.family >= len(model.NAMES) or op.size > 3 or op.form not in model.forms_of(op.family):
         return False
-    unused = {"form"} if op.family not in ELEMENT else {"turns"}
-    if op.family in ADDS:
-        unused.add("first")
-    if op.family not in INDEXED + ELEMENT:
-        unused.add("index")
-    return not any(getattr(op, name) for name in unused)
+    if op.turns > (3 if model.has_turns(op.family) else 0):
+        return False
+    limits = model.limits_of(op.family, op.size)
+    return not any(value for value, limit in zip(op[4:], limits) if limit is None)
 
 
 def encode_case(fields):
@@ -172,8 +170,8 @@ def list_case(data, room):
 class Maker(run_cases.Maker):
     """Endless cases, over the words that the stored cases are made of."""
 
-    def __init__(self, source):
-        super().__init__(source)
+    def __init__(self, source, *families):
+        super().__init__(source, *families)
         self.lines = line_cases.Maker(source)
         # Bytes to cut files from, for each width of an element.
         self.pools = [self.pool(bits) for bits in (8, 16, 32, 64)]
@@ -272,8 +270,9 @@ class Maker(run_cases.Maker):
         """Any operation, its registers one in some way."""
         op = self.source.choose(self.operations)
         one, other = self.source.below(8), self.source.below(8)
-        first = 0 if op.family in ADDS else self.source.choose((one, other))
-        word = self.word(op._replace(destination=one, first=first, second=self.source.choose((one, other))))
+        first = 0 if op.family in DESTRUCTIVE else self.source.choose((one, other))
+        start = one - one % model.step_of(op.family, op.form)
+        word = self.word(op._replace(destination=start, first=first, second=self.source.choose((one, other))))
         length = self.length()
         return run_case(length, self.file(4 * length), self.flag(), [word])
 
@@ -287,7 +286,8 @@ class Maker(run_cases.Maker):
             made = [lanes.data_of(x, maker.bits) for x in self.source.choose(makers)()]
             c, n, m = c + made[0], n + made[1], m + made[2]
         rest = self.file(29 * (length // 8))
-        word = self.word(op._replace(destination=2, first=0 if op.family in ADDS else 1))
+        start = 2 - 2 % model.step_of(op.family, op.form)
+        word = self.word(op._replace(destination=start, first=0 if op.family in DESTRUCTIVE else 1))
         return run_case(length, m + n + c + rest, self.flag(), [word])
 
     def damaged(self):
@@ -313,7 +313,7 @@ class Maker(run_cases.Maker):
     def fields(self):
         """Of an operation; some at an edge, and now and then too few or too many."""
         source = self.source
-        fields = [*self.lines.within(source.choose(self.operations)[:4])]
+        fields = [*source.within(source.choose(self.operations)[:4])]
         for _ in range(source.below(3)):
             fields[source.below(8)] = source.choose(NUMBERS)
         if source.below(20) == 0:

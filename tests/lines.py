@@ -32,6 +32,7 @@ from scenario import Fault, run_all
 PATIENCE = 60  # seconds in which a run must end by itself
 LINE = b"SQCADD Z0.B, Z0.B, Z1.B, #90"
 WORD = bytes.fromhex("20D80145")
+LONGEST = b"SQDMULH { Z28.D-Z31.D }, { Z28.D-Z31.D }, Z15.D"
 
 
 # ---- running a program
@@ -196,7 +197,8 @@ def wrong():
         yield f"{line}", refuses, line, f"kob asm: line 1{why}\n"
         yield f"{line} later", refuses, LINE + b"\n\n" + line + b"\r\nnonsense\n", f"kob asm: line 3{why}\n"
     # Each beginning of a line, with nothing and with something wrong behind it.
-    for line in (LINE, b"SQRDCMLAH Z31.S, Z30.S, Z15.S[1], #270", b"SQRDMLSH V0.4H, V1.4H, V2.H[7]", b".inst 0x4501D820"):
+    some = b"SQRDCMLAH Z31.S, Z30.S, Z15.S[1], #270", b"SQRDMLSH V0.4H, V1.4H, V2.H[7]", LONGEST
+    for line in (LINE, *some, b".inst 0x4501D820"):
         for length in range(1, len(line)):
             if assembly.word_of(line[:length]) is None:
                 yield f"{line[:length]}", refuses, line[:length]
@@ -258,7 +260,8 @@ def words():
     for left in range(1, 4):
         yield f"{left} bytes", disassembles, bytes(left)
         yield f"{left} bytes behind a word", disassembles, WORD + bytes(left)
-    yield "the cases of document 01", disassembles, b"".join(struct.pack("<I", word) for word, _ in model.P1_TO_P7)
+    given = b"".join(struct.pack("<I", word) for word, _ in model.WORDS)
+    yield "the cases of document 01 and of A3", disassembles, given
     every = list(dict.fromkeys(cases.words()))
     yield "the stored words", disassembles, struct.pack(f"<{len(every)}I", *every)
     for count in (8191, 8192, 8193, 16_384, 20_000):
@@ -266,7 +269,7 @@ def words():
         yield f"{count} words", disassembles, struct.pack(f"<{count}I", *some)
         yield f"{count} words and a byte", disassembles, struct.pack(f"<{count}I", *some) + b"\7"
     # The longest line of the grammar in every place of a piece.
-    longest = struct.pack("<I", assembly.assemble(b"SQRDCMLAH Z31.S, Z30.S, Z15.S[1], #270")[0][0])
+    longest = struct.pack("<I", assembly.assemble(LONGEST)[0][0])
     yield "the longest lines", disassembles, longest * 20_000
 
 
@@ -274,17 +277,22 @@ def words():
 
 LETTERS = dict.fromkeys("dnm", range(32)) | {"h": range(16), "l": range(8), "i": range(8), "j": range(4), "k": range(2)}
 LETTERS |= {"t": "BHSD", "p": (2, 4), "q": (4, 8), "r": (0, 90, 180, 270), "s": (90, 270)}
+LETTERS |= {"a": range(0, 32, 2), "b": range(1, 32, 2), "e": range(0, 32, 4), "f": range(3, 32, 4)}
+TOGETHER = {"b": "a", "f": "e"}  # the last register of a group goes with the first
 PAGE = (ROOT / "docs/lines.md").read_text()
 
 
 def templates_are_all():
-    """Each line of a template is a line, as many as there are; a letter stands for the same wherever it stands."""
+    """Each line of a template is a line, as many as there are; a letter stands for the same wherever it stands, and
+    so do two that go together."""
     count, source = 0, cases.Source(22)
     for template in re.findall(r"^\| `((?:SQ|C)[^`]*[a-z][^`]*)` \|", PAGE.split("## Reading")[0], re.M):
         letters = sorted(set(re.findall("[a-z]", template)))
-        count += math.prod(len(LETTERS[letter]) for letter in letters)
+        chosen = [letter for letter in letters if letter not in TOGETHER]
+        count += math.prod(len(LETTERS[letter]) for letter in chosen)
         for _ in range(200):
-            values = {letter: str(source.choose(LETTERS[letter])) for letter in letters}
+            places = {letter: source.below(len(LETTERS[letter])) for letter in chosen}
+            values = {letter: str(LETTERS[letter][places[TOGETHER.get(letter, letter)]]) for letter in letters}
             text = re.sub("[a-z]", lambda found: values[found[0]], template).encode()
             if lines.read(text)[0] != model.DONE:
                 raise Fault(f"'{text.decode()}' is no line")

@@ -4,8 +4,9 @@
     tests/llvm.py
 
 The model enumerates the operations; 'kob disasm' prints the lines of their words. llvm-mc prints the same words:
-the texts have to be the same but for case and for the tab behind the mnemonic. llvm-mc also assembles the printed
-lines: its encodings have to be the words. The last line is 'llvm: N lines, M differences'.
+the texts have to be the same but for case, for the tab behind the mnemonic, and for what parts the first and the last
+register of a group. llvm-mc also assembles the printed lines: its encodings have to be the words. The last line is
+'llvm: N lines, M differences'.
 """
 
 import re
@@ -21,8 +22,9 @@ sys.path.insert(0, str(ROOT / "reference"))
 import lines
 import model
 
-OPTIONS = ["-triple=aarch64", "-mattr=+sve2,+rdm"]
+OPTIONS = ["-triple=aarch64", "-mattr=+sve2,+rdm,+sme2"]
 ENCODING = re.compile(rb"encoding: \[0x(..),0x(..),0x(..),0x(..)\]")
+GROUP = re.compile(rb"\{ (Z\d+\.[BHSD])(?:, | - )(Z\d+\.[BHSD]) \}")  # of two, or of four
 BATCH = 200_000  # words for one start of llvm-mc
 TOLD = 10  # differences told
 
@@ -32,10 +34,11 @@ def output(command, data):
 
 
 def printed(llvm, words):
-    """Its lines in our layout: upper case, one space behind the mnemonic."""
+    """Its lines in our layout: upper case, one space behind the mnemonic, a group as first and last."""
     octets = b"\n".join(b" ".join(b"0x%02x" % byte for byte in word.to_bytes(4, "little")) for word in words)
     said = output([llvm, *OPTIONS, "-disassemble"], octets).splitlines()
-    return [b" ".join(line.split(None, 1)).rstrip().upper() for line in said if line.strip() != b".text"]
+    shown = (b" ".join(line.split(None, 1)).rstrip().upper() for line in said if line.strip() != b".text")
+    return [GROUP.sub(rb"{ \1-\2 }", line) for line in shown]
 
 
 def assembled(llvm, text):

@@ -20,7 +20,7 @@ import sys
 import tempfile
 import unittest
 from array import array
-from itertools import product
+from itertools import chain, product
 from pathlib import Path
 
 ROOT = Path(__file__).resolve().parent.parent
@@ -43,8 +43,8 @@ import report
 import run_cases
 import traces
 from execution import LENGTHS, MULTIPLES
-from kobbeskuim import Family, Form, Kind, NotALine, Number, Operation, Refused, Size, Stopped, Stream, StreamRefused
-from kobbeskuim import Verdict
+from kobbeskuim import Family, Form, Group, Kind, NotALine, Number, Operation, Refused, Size, Stopped, Stream
+from kobbeskuim import StreamRefused, Verdict
 
 SONAME = f"libkobbeskuim.so.{kobbeskuim.VERSION.split('.')[0]}"
 CADD, OUTSIDE, RESERVED = 0x4500D800, 0x00000000, 0x2F00F000
@@ -156,9 +156,9 @@ class Words(unittest.TestCase):
             self.assertEqual(found, (number[wanted], None) if wanted in number else (0, wanted), hex(word))
 
     def test_decoded_fields_have_their_types(self):
-        for word, wanted in model.P1_TO_P7[:6]:
-            found = kobbeskuim.decode(word)
-            self.assertEqual([type(field) for field in found], [Family, Size, Form, int, int, int, int, int])
+        for word, wanted in model.P1_TO_P7[:6] + model.A3_WORDS[:7]:
+            found, form = kobbeskuim.decode(word), Group if wanted.family == model.SQDMULH else Form
+            self.assertEqual([type(field) for field in found], [Family, Size, form, int, int, int, int, int])
             self.assertEqual(found.family.name, model.NAMES[wanted.family].replace("-", "_"))
 
     def encodes(self, fields):
@@ -173,7 +173,22 @@ class Words(unittest.TestCase):
             for place, value in product(range(8), harness.NUMBERS):
                 found.add(self.encodes([*op[:place], value, *op[place + 1 :]]))
             found.update(self.encodes(fields) for fields in ([], op[:7], op, [*op, 0]))
-        self.assertEqual(found, {0, 7, 8, 9, 10, 32, 33})
+        self.assertEqual(found, {0, 7, 8, 9, 10, 14, 32, 33})
+
+    def test_forms(self):
+        """Of each family, the forms that it has and the others up to 8."""
+        for family, form in product(range(len(model.NAMES)), range(9)):
+            named = form in model.forms_of(family)
+            turns = model.turns_of(family)[0]
+            number = self.encodes([family, model.H, form, turns, 0, 0, 0, 0])
+            self.assertEqual(number, 0 if named else Number.NO_OPERATION, (family, form))
+
+    def test_groups(self):
+        """9 comes before 14, and 14 before nothing: the family has no index."""
+        for group, first, second in product(Group, range(36), (0, 15, 16, 31)):
+            number = self.encodes([Family.SQDMULH, Size.S, group, 0, first, 0, second, 0])
+            above, start = first > 31 or second > 15, first % group == 0
+            self.assertEqual(number, Number.REGISTER_LIMIT if above else 0 if start else Number.GROUP_START)
 
     def test_listing(self):
         data, text = model.EXAMPLE
@@ -230,11 +245,12 @@ class Lines(unittest.TestCase):
                 found.add(self.writes(model.Operation(*op[:place], value, *op[place + 1 :])))
         for fields in ([], [0] * 7, [0] * 9):
             self.assertEqual(answered(kobbeskuim.line, fields), (Number.BAD_FIELDS, None))
-        self.assertEqual(found, {0, 7, 8, 9, 10, 33})
+        self.assertEqual(found, {0, 7, 8, 9, 10, 14, 33})
 
     def test_texts(self):
         maker = line_cases.Maker(cases.Source(13))
-        for text in (*maker.edges(), *maker.turns(), *maker.destinations(), *maker.numbers(), *maker.names()):
+        parts = maker.edges, maker.turns, maker.destinations, maker.groups, maker.numbers, maker.names
+        for text in chain.from_iterable(part() for part in parts):
             self.reads(text)
             self.reads(maker.changed(text))
 

@@ -30,19 +30,20 @@ import model
 from cases import Source
 from execution import LENGTHS
 from harness import ROOT, call, packed
-from model import ADDS
+from model import ADDS, DESTRUCTIVE, GROUPS
 
 TOLD = 10  # differences told in full
 BATCH = 2000  # cases for one start of either side
 CROSS = "aarch64-linux-gnu-gcc"
 QEMU = ["qemu-aarch64", "-cpu", "max"]  # max has SVE2 and all five lengths
+FAMILIES = [family for family in range(len(model.NAMES)) if family not in GROUPS]  # SQDMULH is SME2's
 
 
 class Maker(harness.Maker):
     """Endless cases: a length, a file, a flag and words."""
 
     def __init__(self, source):
-        super().__init__(source)
+        super().__init__(source, FAMILIES)
         self.aimed = [(op, self.segments(op)) for op in self.operations]
 
     def segments(self, op):
@@ -57,7 +58,7 @@ class Maker(harness.Maker):
         if self.source.below(2):
             return op
         low = self.source.below(7)
-        first = 0 if op.family in ADDS else low + op.first % 2
+        first = 0 if op.family in DESTRUCTIVE else low + op.first % 2
         return op._replace(destination=low + op.destination % 2, first=first, second=low + op.second % 2)
 
     def one_word(self, op, segments, length):

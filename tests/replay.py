@@ -428,7 +428,8 @@ def long_files():
     for cut in (65537, 65539):
         what = f"case 61: the body takes 1108 bytes, {cut - 64432} of them came"
         yield f"{cut} bytes of 65540", is_broken, LONG[:cut], 16, what, NAME
-    what = "case 66: the body takes 1064 bytes, 1063 of them came"
+    body = len(mixed) - replay.contents(mixed)[0][-1].start
+    what = f"case 66: the body takes {body} bytes, {body - 1} of them came"
     yield "each verdict, and a cut", is_broken, mixed[:-1], 16, what, NAME
     for count in (1004, 1005):  # the trace ends 396 bytes before 1 MiB, and 648 behind it
         yield f"{count} cases", as_modelled, repeated(128, 0, count)

@@ -29,7 +29,7 @@ from typing import TYPE_CHECKING, Iterable, Iterator, NamedTuple, SupportsIndex
 if TYPE_CHECKING:
     from _typeshed import ReadableBuffer, WriteableBuffer
 
-VERSION = "0.5.0"
+VERSION = "0.6.0"
 _SONAME = f"libkobbeskuim.so.{VERSION.split('.')[0]}"
 
 # ---- limits
@@ -42,7 +42,7 @@ WORDS_MAX = 4096  # of a program
 LIST_WORDS_MAX = 1048576  # of a listing; one more gives its LIMIT line
 TRACE_MAX = 65536  # bytes, but where a trace comes as a stream
 CASES_MAX = 1024  # that the contents of a trace may name
-LINE_MAX = 38  # bytes of the longest line
+LINE_MAX = 47  # bytes of the longest line
 STREAM_SIZE = 20544  # bytes of a stream's state
 
 # ---- numbers answered, and the exceptions that carry them
@@ -73,6 +73,7 @@ class Number(IntEnum):
     NOT_POWER_OF_TWO = 11, "length not a power of two"
     NOT_A_LINE = 12, "not a line"
     NO_LINE_ROOM = 13, "room shorter than the line"
+    GROUP_START = 14, "first register not a multiple of its group's two or four"
     BAD_CONTENTS = 15, "contents cut short or not allowed"
     BAD_TOTAL = 16, "trace above 64 KiB or not as long as its contents say"
     BAD_FLAG = 17, "flag neither 0 nor 1"  # the kind of a verdict, not a refusal
@@ -131,7 +132,7 @@ class StreamRefused(Refused):
 class Family(IntEnum):
     """CMLA_I and SQRDCMLAH_I are the indexed ones."""
 
-    CADD, SQCADD, CMLA, CMLA_I, SQRDCMLAH, SQRDCMLAH_I, SQRDMLAH, SQRDMLSH = range(8)
+    CADD, SQCADD, CMLA, CMLA_I, SQRDCMLAH, SQRDCMLAH_I, SQRDMLAH, SQRDMLSH, SQDMULH = range(9)
 
 
 class Size(IntEnum):
@@ -146,16 +147,22 @@ class Form(IntEnum):
     SCALAR, VECTOR_64, VECTOR_128 = range(3)
 
 
+class Group(IntEnum):
+    """The registers of a group, one after the other."""
+
+    TWO, FOUR = 2, 4
+
+
 class Operation(NamedTuple):
     """An instruction's fields. What its family does not use is 0; of the form, that is SCALAR. `index` is the field,
     and not tuple's method."""
 
     family: Family
     size: Size
-    form: Form = Form.SCALAR  # SQRDMLAH and SQRDMLSH only
-    turns: int = 0  # the rotation in quarter turns; all but SQRDMLAH and SQRDMLSH
-    destination: int = 0  # Zdn, Zda or Rd
-    first: int = 0  # Zn or Rn; CADD and SQCADD have none, for Zdn is their first source
+    form: Form | Group = Form.SCALAR  # SQRDMLAH and SQRDMLSH; SQDMULH has a group here
+    turns: int = 0  # the rotation in quarter turns; all but SQRDMLAH, SQRDMLSH and SQDMULH
+    destination: int = 0  # Zdn, Zda or Rd; of a group the first
+    first: int = 0  # Zn or Rn; CADD, SQCADD and SQDMULH have none, for Zdn is their first source
     second: int = 0  # Zm or Rm
     index: int = 0  # type: ignore[assignment]  # CMLA-I, SQRDCMLAH-I, SQRDMLAH and SQRDMLSH only
 
@@ -314,7 +321,8 @@ def register(length: SupportsIndex, file: ReadableBuffer, n: SupportsIndex) -> m
 
 def _operation(fields: array[int]) -> Operation:
     family, size, form, *others = fields
-    return Operation(Family(family), Size(size), Form(form), *others)
+    held = Group(form) if family == Family.SQDMULH else Form(form)
+    return Operation(Family(family), Size(size), held, *others)
 
 
 def decode(word: SupportsIndex) -> Operation:
@@ -332,10 +340,12 @@ def decode(word: SupportsIndex) -> Operation:
 
 
 def encode(operation: Operation) -> int:
-    """The word of an operation. Refused by 32, 33, 7, 8, 9 or 10, the first that applies.
+    """The word of an operation. Refused by 32, 33, 7, 8, 9, 14 or 10, the first that applies.
 
     >>> hex(encode(Operation(Family.SQRDMLSH, Size.H, Form.VECTOR_64, destination=0, first=1, second=2, index=7)))
     '0x2f72f820'
+    >>> hex(encode(Operation(Family.SQDMULH, Size.D, Group.FOUR, destination=28, second=15)))
+    '0xc1efac1c'
     """
     fields = _numbers("field", operation)
     answer: int = _library.kob_encode(_Words.from_buffer(fields), len(fields))

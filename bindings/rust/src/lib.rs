@@ -41,7 +41,7 @@ pub const TRACE_MAX: usize = 65_536;
 pub const CASES_MAX: usize = 1024;
 
 /// The bytes of the longest line.
-pub const LINE_MAX: usize = 38;
+pub const LINE_MAX: usize = 47;
 
 /// The bytes of a [`Stream`]'s state.
 pub const STREAM_SIZE: usize = 20_544;
@@ -110,6 +110,7 @@ numbers! {
         NOT_POWER_OF_TWO = 11: "length not a power of two",
         NOT_A_LINE = 12: "not a line",
         NO_LINE_ROOM = 13: "room shorter than the line",
+        GROUP_START = 14: "first register not a multiple of its group's two or four",
         BAD_CONTENTS = 15: "contents cut short or not allowed",
         BAD_TOTAL = 16: "trace above 64 KiB or not as long as its contents say",
         NO_CASE = 22: "case not below the number of cases",
@@ -132,6 +133,7 @@ numbers! {
         SQRDCMLAH_I = 5: "SQRDCMLAH-I",
         SQRDMLAH = 6: "SQRDMLAH",
         SQRDMLSH = 7: "SQRDMLSH",
+        SQDMULH = 8: "SQDMULH",
     }
 }
 
@@ -156,6 +158,15 @@ numbers! {
     }
 }
 
+/// The registers of SQDMULH's group, in place of lanes. As a number two of them are [`Form::VECTOR_128`], and `Debug`
+/// shows that name.
+impl Form {
+    /// A group of two registers.
+    pub const TWO: Self = Self(2);
+    /// A group of four registers.
+    pub const FOUR: Self = Self(4);
+}
+
 /// An operation: eight numbers. What its family does not use is 0.
 #[repr(C)] // eight `u32` in a row, as the archive has them
 #[derive(Clone, Copy, Debug, Default, PartialEq, Eq, Hash)]
@@ -164,13 +175,13 @@ pub struct Fields {
     pub family: Family,
     /// The size of an element.
     pub size: Size,
-    /// SQRDMLAH and SQRDMLSH only.
+    /// The lanes of SQRDMLAH and SQRDMLSH, and the registers of SQDMULH's group.
     pub form: Form,
-    /// The rotation in quarter turns, 0 to 3; all but SQRDMLAH and SQRDMLSH.
+    /// The rotation in quarter turns, 0 to 3; all but SQRDMLAH, SQRDMLSH and SQDMULH.
     pub turns: u32,
-    /// Zdn, Zda or Rd.
+    /// Zdn, Zda or Rd; of a group the first.
     pub destination: u32,
-    /// Zn or Rn; CADD and SQCADD have none, for Zdn is their first source.
+    /// Zn or Rn; CADD, SQCADD and SQDMULH have none, for Zdn is their first source.
     pub first: u32,
     /// Zm or Rm.
     pub second: u32,
@@ -277,8 +288,8 @@ pub fn decode(word: u32) -> Result<Fields, Refused> {
 /// The word of the operation that the fields name.
 ///
 /// `NO_OPERATION` refuses a family, size, form or turns that there are not, and a field that the family does
-/// not use and that is not 0; then the first of `NO_SIZE`, `NO_ROTATION`, `REGISTER_LIMIT` and `INDEX_LIMIT`
-/// that applies. The fields of [`decode`] give the word that was decoded.
+/// not use and that is not 0; then the first of `NO_SIZE`, `NO_ROTATION`, `REGISTER_LIMIT`, `GROUP_START` and
+/// `INDEX_LIMIT` that applies. The fields of [`decode`] give the word that was decoded.
 ///
 /// ```
 /// use kobbeskuim::{Family, Fields, Form, Refused, Size, encode};

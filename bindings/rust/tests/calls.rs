@@ -85,8 +85,14 @@ fn words_decoded() {
     assert_eq!(decode(0x44BA_7420), Ok(fields([5, 1, 0, 1, 0, 1, 2, 3])));
     assert_eq!(decode(0x44C2_3820), Ok(fields([4, 3, 0, 2, 0, 1, 2, 0])));
     assert_eq!(decode(0x2F72_F820), Ok(fields([7, 1, 1, 0, 0, 1, 2, 7])));
+    assert_eq!(decode(0xC1AF_A41E), Ok(fields([8, 2, 2, 0, 30, 0, 15, 0])));
+    assert_eq!(decode(0xC1EF_AC1C), Ok(fields([8, 3, 4, 0, 28, 0, 15, 0])));
+    assert_eq!((fields([8, 2, 2, 0, 30, 0, 15, 0]).form, Form::FOUR), (Form::TWO, Form(4)));
     assert_eq!(decode(0x2F00_F000), Err(Refused::RESERVED));
     assert_eq!(decode(0x2F00_F400), Err(Refused::OUTSIDE));
+    assert_eq!(decode(0xC120_A420), Err(Refused::OUTSIDE));
+    assert_eq!(decode(0xC120_AC04), Ok(fields([8, 0, 4, 0, 4, 0, 0, 0])));
+    assert_eq!(decode(0xC120_AC02), Err(Refused::OUTSIDE));
 }
 
 /// Neither has a word or a line.
@@ -97,8 +103,18 @@ fn operations_refused() {
         ([0, 0, 0, 2, 0, 0, 0, 0], Refused::NO_ROTATION),
         ([3, 1, 0, 0, 0, 0, 8, 0], Refused::REGISTER_LIMIT),
         ([6, 2, 0, 0, 0, 0, 0, 4], Refused::INDEX_LIMIT),
+        ([8, 0, 2, 0, 0, 0, 16, 0], Refused::REGISTER_LIMIT),
+        ([8, 0, 2, 0, 32, 0, 0, 0], Refused::REGISTER_LIMIT),
+        ([8, 0, 4, 0, 1, 0, 16, 0], Refused::REGISTER_LIMIT),
+        ([8, 0, 2, 0, 1, 0, 15, 0], Refused::GROUP_START),
+        ([8, 0, 4, 0, 2, 0, 15, 0], Refused::GROUP_START),
         // fields past what there is
+        ([9, 1, 0, 0, 0, 0, 0, 0], Refused::NO_OPERATION),
         ([8, 1, 0, 0, 0, 0, 0, 0], Refused::NO_OPERATION),
+        ([8, 1, 1, 0, 0, 0, 0, 0], Refused::NO_OPERATION),
+        ([8, 1, 3, 0, 0, 0, 0, 0], Refused::NO_OPERATION),
+        ([8, 1, 5, 0, 0, 0, 0, 0], Refused::NO_OPERATION),
+        ([6, 1, 4, 0, 0, 0, 0, 0], Refused::NO_OPERATION),
         ([3, 4, 0, 0, 0, 0, 0, 0], Refused::NO_OPERATION),
         ([3, 1, 3, 0, 0, 0, 0, 0], Refused::NO_OPERATION),
         ([3, 1, 0, 4, 0, 0, 0, 0], Refused::NO_OPERATION),
@@ -111,6 +127,9 @@ fn operations_refused() {
         ([0, 0, 0, 1, 0, 1, 0, 0], Refused::NO_OPERATION),
         ([2, 0, 0, 0, 0, 0, 0, 1], Refused::NO_OPERATION),
         ([6, 1, 0, 1, 0, 0, 0, 0], Refused::NO_OPERATION),
+        ([8, 1, 2, 1, 0, 0, 0, 0], Refused::NO_OPERATION),
+        ([8, 1, 2, 0, 0, 1, 0, 0], Refused::NO_OPERATION),
+        ([8, 1, 2, 0, 0, 0, 0, 1], Refused::NO_OPERATION),
     ];
     for (numbers, refused) in refusals {
         assert_eq!(encode(&fields(numbers)), Err(refused), "{numbers:?}");
@@ -122,7 +141,7 @@ fn operations_refused() {
 #[test]
 fn fields_of_a_word_give_that_word() {
     let (mut low, mut operations) = (1u32, 0);
-    for high in [0x2F00, 0x4400, 0x4500, 0x6F00, 0x7F00].into_iter().flat_map(|top| top..top + 0x100) {
+    for high in [0x2F00, 0x4400, 0x4500, 0x6F00, 0x7F00, 0xC100].into_iter().flat_map(|top| top..top + 0x100) {
         for _ in 0..0x400 {
             low = low.wrapping_mul(69069).wrapping_add(1);
             let word = high << 16 | low >> 16;
@@ -149,6 +168,9 @@ fn lines() {
         ([6, 2, 1, 0, 0, 1, 2, 0], "SQRDMLAH V0.2S, V1.2S, V2.S[0]"),
         ([7, 1, 2, 0, 0, 1, 2, 7], "SQRDMLSH V0.8H, V1.8H, V2.H[7]"),
         ([7, 1, 0, 0, 0, 1, 2, 7], "SQRDMLSH H0, H1, V2.H[7]"),
+        ([8, 1, 2, 0, 0, 0, 2, 0], "SQDMULH { Z0.H-Z1.H }, { Z0.H-Z1.H }, Z2.H"),
+        ([8, 0, 4, 0, 8, 0, 9, 0], "SQDMULH { Z8.B-Z11.B }, { Z8.B-Z11.B }, Z9.B"),
+        ([8, 3, 4, 0, 28, 0, 15, 0], "SQDMULH { Z28.D-Z31.D }, { Z28.D-Z31.D }, Z15.D"),
     ];
     for (numbers, text) in lines {
         assert_eq!(line(&fields(numbers)).as_deref(), Ok(text));
@@ -181,6 +203,10 @@ fn texts_refused() {
         ("CMLA Z0.S, Z1.S, Z15.S[2], #0", 23),
         ("SQRDMLAH V0.2H, V1.2H, V2.H[0]", 13),
         ("SQRDMLAH B0, B1, V2.B[0]", 9),
+        ("SQDMULH { Z0.H, Z1.H }, { Z0.H, Z1.H }, Z2.H", 14),
+        ("SQDMULH { Z2.H-Z5.H }, { Z2.H-Z5.H }, Z2.H", 16),
+        ("SQDMULH { Z0.H-Z1.H }, { Z0.H-Z3.H }, Z2.H", 31),
+        ("SQDMULH { Z0.H-Z1.H }, { Z0.H-Z1.H }, Z16.H", 40),
     ];
     for (text, reach) in texts {
         assert_eq!(read_line(text), Err(NotALine { reach }), "{text}");

@@ -10,7 +10,7 @@ use text::put_hex;
 use text::put_number;
 use text::put_text;
 
-// No instruction is longer than 38 bytes.
+// No instruction is longer than 47 bytes.
 const MOST: usize = 64;
 
 // Bytes from the space to the tilde.

@@ -15,6 +15,7 @@ fn packed_written(w: Written) -> u64
         Written::NoSize => 7,
         Written::NoRotation => 8,
         Written::RegisterLimit => 9,
+        Written::GroupStart => 14,
         Written::IndexLimit => 10,
     }
 }

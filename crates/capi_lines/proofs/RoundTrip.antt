@@ -33,6 +33,7 @@ written-done (LineWritten.Length n) h = ap LineWritten.Length (omega arith)
 written-done LineWritten.NoSize h = absurd (omega arith)
 written-done LineWritten.NoRotation h = absurd (omega arith)
 written-done LineWritten.RegisterLimit h = absurd (omega arith)
+written-done LineWritten.GroupStart h = absurd (omega arith)
 written-done LineWritten.IndexLimit h = absurd (omega arith)
 written-done LineWritten.Room h = absurd (omega arith)
 

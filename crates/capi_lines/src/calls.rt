@@ -1,6 +1,7 @@
 // An operation's line, written from eight numbers and read into them.
 ghost use mathlib.Core.Path.{_≡_};
 ghost use Prim.Native.Nat.{_≤_};
+ghost use Rattle.grammar.specs.Grammar.{lineMax};
 ghost use Rattle.grammar.specs.Number.{lineWrittenLength};
 ghost use Rattle.capi_lines.specs.Write.{linePacked, writeCall};
 ghost use Rattle.capi_lines.specs.Read.{readCall};
@@ -22,7 +23,7 @@ const NO_OPERATION: u64 = 33;
 
 // The number in the low half, the line's length in the high half.
 fn packed(written: LineWritten) -> u64
-    requires { ⌜ lineWrittenLength written ≤ 38 ⌝ }
+    requires { ⌜ lineWrittenLength written ≤ lineMax ⌝ }
     ensures { λ r. ⌜ r ≡ linePacked written ⌝ }
 {
     match written {
@@ -30,6 +31,7 @@ fn packed(written: LineWritten) -> u64
         LineWritten::NoSize => 7,
         LineWritten::NoRotation => 8,
         LineWritten::RegisterLimit => 9,
+        LineWritten::GroupStart => 14,
         LineWritten::IndexLimit => 10,
         LineWritten::Room => 13,
     }

@@ -3,15 +3,22 @@ use Prim.Native.Nat.{ℕ, _+_, _*_, _/_, _%_, _<_}
 use mathlib.Core.Path.{_≡_, refl, sym, ap, _∙_}
 use mathlib.Core.List.{List, [], _∷_}
 use native.Mathlib.Omega.{arith}
+use borrow.Author.Tests.{leb-true, eqb-true}
+use lib.Dec.{leb}
+use Rattle.isa.proofs.Fields.{and-left, and-right}
 use Rattle.isa.specs.declared.types.Size.{Size}
 use Rattle.isa.specs.declared.types.Form.{Form}
 use Rattle.isa.specs.declared.types.Add.{Add}
 use Rattle.isa.specs.declared.types.Mul.{Mul}
 use Rattle.isa.specs.declared.types.MulIndexed.{MulIndexed}
 use Rattle.isa.specs.declared.types.ByElement.{ByElement}
+use Rattle.isa.specs.declared.types.Group.{Group}
+use Rattle.isa.specs.declared.types.MulGroup.{MulGroup}
 use Rattle.isa.specs.Field.{rowWord}
-use Rattle.isa.specs.Table.{addRow, mulRow, indexedRow, scalarRow, vectorRow, i2, i1, ZmH, ZmS}
-use Rattle.isa.specs.Encode.{sizeBits, rotationBits, addRotationBits, bySize, formWord, elementFieldsOf, addChecks, mulChecks, indexedChecks, elementChecks}
+use Rattle.isa.specs.Table.{addRow, mulRow, indexedRow, scalarRow, vectorRow, i2, i1, ZmH, ZmS, sqdmulhTwo, sqdmulhFour}
+use Rattle.isa.specs.Encode.{sizeBits, rotationBits, addRotationBits, bySize, formWord, elementFieldsOf, addChecks, mulChecks, indexedChecks, elementChecks, groupChecks}
+use Rattle.isa.specs.Register.{byGroup, groupCount}
+use Rattle.isa.proofs.Checks.{ChecksPassed}
 use Rattle.isa.specs.Valid.{AddValid, MulValid, IndexedValid, ElementValid}
 use Rattle.codec.specs.Base.{formBase}
 
@@ -52,3 +59,24 @@ element-sum scalar vector a {b} {d} hb hd v = by (a .size) (hd ∙ element-index
     by Size.H e = omega arith
     by Size.S e = omega arith
     by Size.D e = omega arith
+
+-- the remainder of a group's first register, by the group
+pub start-by : (g : Group) (d : ℕ) → byGroup (d % 2) (d % 4) g ≡ d % groupCount g
+start-by Group.Two d = refl
+start-by Group.Four d = refl
+
+-- groups: the first register stands where its multiple does
+pub group-sum : (a : MulGroup) {b s : ℕ} → b ≡ byGroup 3240141824 3240143872 (a .group) → (s ≡ sizeBits (a .size)) × (s < 4) → ChecksPassed (groupChecks sqdmulhTwo sqdmulhFour a) (groupChecks sqdmulhTwo sqdmulhFour a .word) →
+    b + s * 4194304 % 4294967296 + a .zm % 16 * 65536 % 4294967296 + a .zdn % 32 ≡ groupChecks sqdmulhTwo sqdmulhFour a .word
+group-sum a {b} {s} hb hs p = by (a .group) hb (eqb-true (a .zdn % groupCount (a .group)) 0 (p .start))
+  where
+    zm : a .zm < 16
+    zm = let l = leb-true (a .zm) 15 (and-left (leb (a .zm) 15) (leb (a .zdn) 31) (p .registers)) in omega arith
+
+    zdn : a .zdn < 32
+    zdn = let l = leb-true (a .zdn) 31 (and-right (leb (a .zm) 15) (leb (a .zdn) 31) (p .registers)) in omega arith
+
+    by : (g : Group) → b ≡ byGroup 3240141824 3240143872 g → a .zdn % groupCount g ≡ 0 →
+        b + s * 4194304 % 4294967296 + a .zm % 16 * 65536 % 4294967296 + a .zdn % 32 ≡ rowWord (byGroup sqdmulhTwo sqdmulhFour g) (sizeBits (a .size) ∷ a .zm ∷ a .zdn / groupCount g ∷ [])
+    by Group.Two e z = omega (arith, zm, zdn)
+    by Group.Four e z = omega (arith, zm, zdn)

@@ -8,6 +8,7 @@ use Rattle.isa.specs.declared.types.Add.{Add}
 use Rattle.isa.specs.declared.types.Mul.{Mul}
 use Rattle.isa.specs.declared.types.MulIndexed.{MulIndexed}
 use Rattle.isa.specs.declared.types.ByElement.{ByElement}
+use Rattle.isa.specs.declared.types.Group.{Group}
 use Rattle.isa.specs.declared.types.Op.{Op}
 
 -- bits 31 to 24 of a by-element form
@@ -18,6 +19,10 @@ formTop Form.Vector128 = 0x6F
 
 abbrev pub ElementTop : ℕ → Type 0
 ElementTop top = (top ≡ 0x2F) ⊎ ((top ≡ 0x6F) ⊎ (top ≡ 0x7F))
+
+-- bits 31 to 24 of none of document 01's families
+abbrev pub OtherTop : ℕ → Type 0
+OtherTop top = (top ≡ 0x44 → ⊥) × ((top ≡ 0x45 → ⊥) × (ElementTop top → ⊥))
 
 -- CADD, or with saturation SQCADD, and bits 21 to 11
 abbrev pub addBy : Bool → Add → Op
@@ -54,3 +59,8 @@ elementBy true a = Op.Sqrdmlsh a
 abbrev pub elementOpcode : Bool → ℕ
 elementOpcode false = 13
 elementOpcode true = 15
+
+-- SQDMULH of two or of four registers, and bits 15 to 5
+abbrev pub groupOpcode : Group → ℕ
+groupOpcode Group.Two = 1312
+groupOpcode Group.Four = 1376

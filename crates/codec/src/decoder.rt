@@ -3,13 +3,16 @@ ghost use mathlib.Core.Path.{_≡_};
 ghost use Prim.Native.Nat.{_/_, _%_};
 ghost use Rattle.isa.specs.Field.{fieldValue};
 ghost use Rattle.isa.specs.Table.{size};
-ghost use Rattle.isa.specs.Decode.{sizeOf, rotationOf, addRotationOf, addOf, mulOf, indexedWith, elementWith, elementOf, decodeOf};
-ghost use Rattle.codec.specs.Pair.{formTop, ElementTop, addBy, mulBy, mulOpcode, indexedBy, indexedOpcode, elementBy, elementOpcode};
+ghost use Rattle.isa.specs.Decode.{sizeOf, rotationOf, addRotationOf, addOf, mulOf, indexedWith, elementWith, elementOf, groupWith, decodeOf};
+ghost use Rattle.codec.specs.Pair.{formTop, ElementTop, OtherTop, addBy, mulBy, mulOpcode, indexedBy, indexedOpcode, elementBy, elementOpcode, groupOpcode};
+use crate::encoder::by_group;
 use isa::types::Add;
 use isa::types::ByElement;
 use isa::types::Decoded;
 use isa::types::Form;
+use isa::types::Group;
 use isa::types::Mul;
+use isa::types::MulGroup;
 use isa::types::MulIndexed;
 use isa::types::Op;
 use isa::types::Rotation;
@@ -106,6 +109,18 @@ fn read_element(word: u32, form: Form, size: Size, rm: u32, index: u32) -> ByEle
         index,
         rn: (word >> 5) % 32,
         rd: word % 32,
+    }
+}
+
+// The low bits of the first register are zero.
+fn read_group(word: u32, group: Group) -> MulGroup
+    ensures { λ r. ⌜ r ≡ groupWith group (word % 32) word ⌝ }
+{
+    MulGroup {
+        size: size_of((word >> 22) % 4),
+        zm: (word >> 16) % 16,
+        zdn: word % 32,
+        group,
     }
 }
 
@@ -248,6 +263,32 @@ fn decode_element(word: u32, form: Form) -> Decoded
     }
 }
 
+// A group starts at a multiple of its registers.
+fn decode_start(word: u32, group: Group) -> Decoded
+    requires { ⌜ (word / 16777216 ≡ 0xC1) × ((word / 1048576 % 4 ≡ 2) × (word / 32 % 2048 ≡ groupOpcode group)) ⌝ }
+    ensures { λ r. ⌜ r ≡ decodeOf word ⌝ }
+{
+    let a = read_group(word, group);
+    let low = by_group(word % 2, word % 4, group);
+    match low {
+        0 => Decoded::Operation(Op::Sqdmulh(a)),
+        _ => Decoded::Outside, // the low bits are not zero
+    }
+}
+
+// Bits 31 to 24, 21 to 20 and 15 to 5 choose. All are looked at here, so that no word of the other families is asked for bits 31 to 24 once more.
+fn decode_group(word: u32) -> Decoded
+    requires { ⌜ OtherTop (word / 16777216) ⌝ }
+    ensures { λ r. ⌜ r ≡ decodeOf word ⌝ }
+{
+    let opcode = (word >> 24 << 13) + ((word >> 20) % 4 << 11) + (word >> 5) % 2048;
+    match opcode {
+        0b1100_0001_10_1010_0100_000 => decode_start(word, Group::Two),
+        0b1100_0001_10_1010_1100_000 => decode_start(word, Group::Four),
+        _ => Decoded::Outside, // no other bits 31 to 24, or no other opcode under C1
+    }
+}
+
 pub fn decode(word: u32) -> Decoded
     ensures { λ r. ⌜ r ≡ decodeOf word ⌝ }
 {
@@ -256,6 +297,6 @@ pub fn decode(word: u32) -> Decoded
         0x44 => decode_product(word),
         0x45 => decode_add(word),
         0x2F | 0x6F | 0x7F => decode_element(word, form_of(top)),
-        _ => Decoded::Outside, // no other bits 31 to 24
+        _ => decode_group(word),
     }
 }

@@ -1,13 +1,16 @@
 // The word that an operation is, or the first refusal that applies.
 ghost use mathlib.Core.Path.{_≡_};
 ghost use Prim.Native.Nat.{ℕ, _<_, _^_};
-ghost use Rattle.isa.specs.Table.{i2, i1, ZmH, ZmS, addRow, mulRow, indexedRow, scalarRow, vectorRow};
-ghost use Rattle.isa.specs.Encode.{answer, sizeBits, rotationBits, addRotation, addRotationBits, halfOrSingle, bySize, addChecks, mulChecks, indexedChecks, elementChecks, encodeOf};
+ghost use Rattle.isa.specs.Table.{i2, i1, ZmH, ZmS, addRow, mulRow, indexedRow, scalarRow, vectorRow, sqdmulhTwo, sqdmulhFour};
+ghost use Rattle.isa.specs.Encode.{answer, sizeBits, rotationBits, addRotation, addRotationBits, halfOrSingle, bySize, addChecks, mulChecks, indexedChecks, elementChecks, groupChecks, encodeOf};
+ghost use Rattle.isa.specs.Register.{byGroup};
 ghost use Rattle.codec.specs.Base.{formBase};
 use isa::types::Add;
 use isa::types::ByElement;
 use isa::types::Form;
+use isa::types::Group;
 use isa::types::Mul;
+use isa::types::MulGroup;
 use isa::types::MulIndexed;
 use isa::types::Op;
 use isa::types::Rotation;
@@ -82,6 +85,16 @@ pub fn by_size(h: u32, s: u32, z: Size) -> u32
     }
 }
 
+// The same for a group.
+pub fn by_group(two: u32, four: u32, g: Group) -> u32
+    ensures { λ r. ⌜ (r ≡ byGroup two four g) × ((n : ℕ) → two < n → four < n → r < n) ⌝ }
+{
+    match g {
+        Group::Two => two,
+        Group::Four => four,
+    }
+}
+
 // The base of a by-element form, with Q.
 fn form_base(scalar: u32, vector: u32, f: Form) -> u32
     requires { ⌜ (scalar < 2 ^ 31) × (vector < 2 ^ 30) ⌝ }
@@ -95,8 +108,15 @@ fn form_base(scalar: u32, vector: u32, f: Form) -> u32
 }
 
 // The first check that fails refuses; where none does, the word is written.
-fn answered(size: bool, rotation: bool, registers: bool, index: bool, word: u32) -> Written
-    ensures { λ r. ⌜ r ≡ answer (record { size = size; rotation = rotation; registers = registers; index = index; word = word }) ⌝ }
+fn answered(
+    size: bool,
+    rotation: bool,
+    registers: bool,
+    start: bool,
+    index: bool,
+    word: u32,
+) -> Written
+    ensures { λ r. ⌜ r ≡ answer (record { size = size; rotation = rotation; registers = registers; start = start; index = index; word = word }) ⌝ }
 {
     if !size {
         return Written::NoSize;
@@ -106,6 +126,9 @@ fn answered(size: bool, rotation: bool, registers: bool, index: bool, word: u32)
     }
     if !registers {
         return Written::RegisterLimit;
+    }
+    if !start {
+        return Written::GroupStart;
     }
     if !index {
         return Written::IndexLimit;
@@ -133,6 +156,7 @@ fn encode_add(base: u32, a: Add) -> Written
         add_rotation(rot),
         (zm <= 31) & (zdn <= 31),
         true,
+        true,
         word,
     )
 }
@@ -156,6 +180,7 @@ fn encode_mul(base: u32, a: Mul) -> Written
         true,
         true,
         (zm <= 31) & ((zn <= 31) & (zda <= 31)),
+        true,
         true,
         word,
     )
@@ -182,6 +207,7 @@ fn encode_indexed(base_h: u32, base_s: u32, a: MulIndexed) -> Written
         half_or_single(size),
         true,
         registers,
+        true,
         index <= by_size(3, 1, size),
         word,
     )
@@ -213,7 +239,30 @@ fn encode_element(scalar: u32, vector: u32, a: ByElement) -> Written
         half_or_single(size),
         true,
         registers,
+        true,
         index <= by_size(7, 3, size),
+        word,
+    )
+}
+
+// The first register is the multiple that its place holds.
+fn encode_group(a: MulGroup) -> Written
+    ensures { λ r. ⌜ r ≡ answer (groupChecks sqdmulhTwo sqdmulhFour a) ⌝ }
+{
+    let size = a.size;
+    let group = a.group;
+    let zm = a.zm;
+    let zdn = a.zdn;
+    let word = by_group(0xC120_A400, 0xC120_AC00, group)
+        + (size_bits(size) << 22)
+        + (zm % 16 << 16)
+        + zdn % 32;
+    answered(
+        true,
+        true,
+        (zm <= 15) & (zdn <= 31),
+        by_group(zdn % 2, zdn % 4, group) == 0,
+        true,
         word,
     )
 }
@@ -230,5 +279,6 @@ pub fn encode(op: Op) -> Written
         Op::SqrdcmlahIndexed(a) => encode_indexed(0x44A0_7000, 0x44E0_7000, a),
         Op::Sqrdmlah(a) => encode_element(0x7F00_D000, 0x2F00_D000, a),
         Op::Sqrdmlsh(a) => encode_element(0x7F00_F000, 0x2F00_F000, a),
+        Op::Sqdmulh(a) => encode_group(a),
     }
 }

@@ -1,4 +1,4 @@
-// Decoding and writing of the instruction words of the eight families, and words from bytes.
+// Decoding and writing of the instruction words of the nine families, and words from bytes.
 mod bytes;
 mod decoder;
 mod encoder;
@@ -9,6 +9,7 @@ pub use decoder::decode;
 pub use decoder::rotation_of;
 pub use decoder::size_of;
 pub use encoder::add_rotation_bits;
+pub use encoder::by_group;
 pub use encoder::by_size;
 pub use encoder::encode;
 pub use encoder::rotation_bits;

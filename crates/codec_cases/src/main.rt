@@ -63,6 +63,7 @@ fn print_written(op: Op) {
         Written::NoSize => print_answer(7, 0),
         Written::NoRotation => print_answer(8, 0),
         Written::RegisterLimit => print_answer(9, 0),
+        Written::GroupStart => print_answer(14, 0),
         Written::IndexLimit => print_answer(10, 0),
     }
 }

@@ -16,8 +16,8 @@ use text::write_start;
 // Bytes of one piece: a multiple of 4.
 const PIECE: usize = 32768;
 
-// The room that a full piece asks for: 39 bytes for each of its 8,192 words. No line of the grammar is longer than 38, and the others have fewer.
-const ROOM: usize = 319488;
+// The room that a full piece asks for: 48 bytes for each of its 8,192 words. No line of the grammar is longer than 47, and the others have fewer.
+const ROOM: usize = 393216;
 
 // Nothing says that the input ends, so the loop counts the pieces: 2^55 bytes are no limit.
 const PIECES: usize = 1099511627776;

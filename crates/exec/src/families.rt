@@ -4,11 +4,15 @@ ghost use mathlib.Core.Bool.{true, false};
 ghost use Prim.Native.Nat.{_<_};
 ghost use lib.ListN.{length};
 ghost use Rattle.isa.specs.Encode.{halfOrSingle, bySize};
-ghost use Rattle.isa.specs.Meaning.{laneBytes, laneClamps, adds, subtracts};
+ghost use Rattle.integer.specs.Lane.{doubledHigh};
+ghost use Rattle.isa.specs.Meaning.{laneBytes, laneClamps, laneWise, adds, subtracts};
+ghost use Rattle.isa.specs.Register.{bits, groupCount};
 ghost use Rattle.isa.specs.Sources.{addRule, mulRule, indexedRule};
 ghost use Rattle.isa.specs.Stage.{crossed};
+ghost use Rattle.regfile.specs.Group.{GroupLying, GroupSwept};
 ghost use Rattle.regfile.specs.Sweep.{Lying, Swept, Within, Touched};
 use isa::types::Form;
+use isa::types::Group;
 use isa::types::Rotation;
 use isa::types::Size;
 
@@ -152,7 +156,31 @@ pub fn sqrdmlsh(
     }
 }
 
-// ---- two families in one function each: it has two callers, so the compiler leaves it out of the loop over the words, which stays short
+fn sqdmulh_two(size: Size, l: usize, file: &mut [u8], d: usize, m: usize)
+    requires { ⌜ GroupLying l (now file) 2 d m ⌝ }
+    ensures { λ _. ⌜ GroupSwept l 2 (laneWise size (doubledHigh (bits size))) (now (file .entry)) d m (now (file .exit)) ⌝ }
+{
+    match size {
+        Size::B => vector8::sqdmulh::sqdmulh_two(l, file, d, m),
+        Size::H => vector16::sqdmulh::sqdmulh_two(l, file, d, m),
+        Size::S => vector32::sqdmulh::sqdmulh_two(l, file, d, m),
+        Size::D => vector64::sqdmulh::sqdmulh_two(l, file, d, m),
+    }
+}
+
+fn sqdmulh_four(size: Size, l: usize, file: &mut [u8], d: usize, m: usize)
+    requires { ⌜ GroupLying l (now file) 4 d m ⌝ }
+    ensures { λ _. ⌜ GroupSwept l 4 (laneWise size (doubledHigh (bits size))) (now (file .entry)) d m (now (file .exit)) ⌝ }
+{
+    match size {
+        Size::B => vector8::sqdmulh::sqdmulh_four(l, file, d, m),
+        Size::H => vector16::sqdmulh::sqdmulh_four(l, file, d, m),
+        Size::S => vector32::sqdmulh::sqdmulh_four(l, file, d, m),
+        Size::D => vector64::sqdmulh::sqdmulh_four(l, file, d, m),
+    }
+}
+
+// ---- two families, or groups, in one function each: it has two callers, so the compiler leaves it out of the loop over the words, which stays short
 
 pub fn sums(
     saturating: bool,
@@ -213,5 +241,15 @@ pub fn indexed(
         sqrdcmlah_indexed(size, rot, index, l, file, d, n, m)
     } else {
         cmla_indexed(size, rot, index, l, file, d, n, m)
+    }
+}
+
+pub fn groups(group: Group, size: Size, l: usize, file: &mut [u8], d: usize, m: usize)
+    requires { ⌜ GroupLying l (now file) (groupCount group) d m ⌝ }
+    ensures { λ _. ⌜ GroupSwept l (groupCount group) (laneWise size (doubledHigh (bits size))) (now (file .entry)) d m (now (file .exit)) ⌝ }
+{
+    match group {
+        Group::Two => sqdmulh_two(size, l, file, d, m),
+        Group::Four => sqdmulh_four(size, l, file, d, m),
     }
 }

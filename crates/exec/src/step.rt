@@ -1,16 +1,19 @@
 // One operation on the lent file.
 ghost use mathlib.Core.Path.{_≡_};
 ghost use Prim.Native.Nat.{_/_};
-ghost use Rattle.isa.specs.Valid.{Valid, AddValid, MulValid, IndexedValid, ElementValid};
+ghost use Rattle.isa.specs.Valid.{Valid, AddValid, MulValid, IndexedValid, ElementValid, GroupValid};
 ghost use Rattle.regfile.specs.Place.{Starts};
 ghost use Rattle.regfile.specs.Sweep.{Held};
 ghost use Rattle.exec.specs.Step.{Executed};
+use crate::families::groups;
 use crate::families::indexed;
 use crate::families::products;
 use crate::families::sums;
 use isa::types::Add;
 use isa::types::ByElement;
+use isa::types::Group;
 use isa::types::Mul;
+use isa::types::MulGroup;
 use isa::types::MulIndexed;
 use isa::types::Op;
 use regfile::segment::clear_above;
@@ -145,6 +148,36 @@ fn sqrdmlsh(l: usize, file: &mut [u8], starts: &[usize; 32], a: ByElement) -> bo
     clamped
 }
 
+// The group's registers follow its first.
+fn sqdmulh_two(l: usize, file: &mut [u8], starts: &[usize; 32], a: MulGroup) -> bool
+    requires { ⌜ Held l (now file) ⌝ }
+    requires { ⌜ Starts (l / 8) (now starts) ⌝ }
+    requires { ⌜ GroupValid a ⌝ }
+    requires { ⌜ a .group ≡ Group.Two ⌝ }
+    ensures { λ r. ⌜ Executed l (Op.Sqdmulh a) (now (file .entry)) (now (file .exit)) r ⌝ }
+{
+    let size = a.size;
+    let d = starts[wide(a.zdn)];
+    let m = starts[wide(a.zm)];
+    groups(Group::Two, size, l, file, d, m);
+    false
+}
+
+// The same.
+fn sqdmulh_four(l: usize, file: &mut [u8], starts: &[usize; 32], a: MulGroup) -> bool
+    requires { ⌜ Held l (now file) ⌝ }
+    requires { ⌜ Starts (l / 8) (now starts) ⌝ }
+    requires { ⌜ GroupValid a ⌝ }
+    requires { ⌜ a .group ≡ Group.Four ⌝ }
+    ensures { λ r. ⌜ Executed l (Op.Sqdmulh a) (now (file .entry)) (now (file .exit)) r ⌝ }
+{
+    let size = a.size;
+    let d = starts[wide(a.zdn)];
+    let m = starts[wide(a.zm)];
+    groups(Group::Four, size, l, file, d, m);
+    false
+}
+
 // An operation that a word decoded to, on a checked file: `step_word` has both. Answers whether it sets the flag.
 pub fn step(l: usize, file: &mut [u8], starts: &[usize; 32], op: Op) -> bool
     requires { ⌜ Held l (now file) ⌝ }
@@ -161,5 +194,13 @@ pub fn step(l: usize, file: &mut [u8], starts: &[usize; 32], op: Op) -> bool
         Op::SqrdcmlahIndexed(a) => sqrdcmlah_indexed(l, file, starts, a),
         Op::Sqrdmlah(a) => sqrdmlah(l, file, starts, a),
         Op::Sqrdmlsh(a) => sqrdmlsh(l, file, starts, a),
+        Op::Sqdmulh(a) => {
+            // Here and not in a function of its own, where the compiler would make one call of the two.
+            let group = a.group;
+            match group {
+                Group::Two => sqdmulh_two(l, file, starts, a),
+                Group::Four => sqdmulh_four(l, file, starts, a),
+            }
+        }
     }
 }

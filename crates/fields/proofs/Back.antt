@@ -2,7 +2,7 @@
 use mathlib.Core.Path.{_≡_, refl, sym, ap, subst, _∙_}
 use Prim.Native.Nat.{ℕ, zero, suc, _≤_}
 use native.Mathlib.Omega.{arith}
-use mathlib.Core.Bool.{Bool, true, false}
+use mathlib.Core.Bool.{Bool, true, false, _||_}
 use mathlib.Core.List.{List, [], _∷_}
 use lib.Dec.{leb, eqb}
 use lib.ListN.{length, getD}
@@ -10,11 +10,13 @@ use borrow.Author.Tests.{leb-true, eqb-true}
 use Rattle.isa.specs.declared.types.Op.{Op}
 use Rattle.isa.specs.Decode.{sizeOf, rotationOf}
 use Rattle.isa.specs.Encode.{sizeBits, rotationBits}
+use Rattle.isa.specs.Register.{groupCount}
 use Rattle.isa.proofs.Fields.{and-left, and-right}
+use Rattle.isa.proofs.File.{cases}
 use Rattle.fields.specs.declared.types.Numbers.{Numbers}
 use Rattle.fields.specs.declared.types.Named.{Named}
-use Rattle.fields.specs.Fields.{formNumber, addFields, mulFields, indexedFields, elementFields, fieldsOf}
-use Rattle.fields.specs.Named.{numbersAt, withinOf, formOf, addAt, mulAt, indexedAt, elementAt, namedIf, addUnused, mulUnused, indexedUnused, elementUnused, families, familyNamed, pickNamed, namedOf}
+use Rattle.fields.specs.Fields.{formNumber, addFields, mulFields, indexedFields, elementFields, groupFields, fieldsOf}
+use Rattle.fields.specs.Named.{numbersAt, withinOf, formOf, addAt, mulAt, indexedAt, elementAt, groupWith, groupAt, namedIf, addUnused, mulUnused, indexedUnused, elementUnused, groupUnused, families, familyNamed, pickNamed, namedOf}
 
 -- ---- a size, a rotation and a form from their numbers, and back
 
@@ -37,6 +39,11 @@ form-again zero h = refl
 form-again (suc zero) h = refl
 form-again (suc (suc zero)) h = refl
 form-again (suc (suc (suc k))) h = absurd (omega arith)
+
+group-again : (k : ℕ) → (eqb k 2 || eqb k 4) ≡ true → groupCount (groupWith k) ≡ k
+group-again k h = cases (eqb k 2)
+    (λ e. rw e (sym (eqb-true k 2 e)))
+    (λ e. rw e (sym (eqb-true k 4 (rw e at h))))
 
 -- ---- the eight numbers in order
 
@@ -62,11 +69,8 @@ module _ (n : Numbers) (within : withinOf n ≡ true) where
   size-is : sizeBits (sizeOf (n .size)) ≡ n .size
   size-is = size-again (n .size) (leb-true (n .size) 3 (and-left _ _ within))
 
-  form-is : formNumber (formOf (n .form)) ≡ n .form
-  form-is = form-again (n .form) (leb-true (n .form) 2 (and-left _ _ (and-right (leb (n .size) 3) _ within)))
-
   turns-is : rotationBits (rotationOf (n .turns)) ≡ n .turns
-  turns-is = turns-again (n .turns) (leb-true (n .turns) 3 (and-right (leb (n .form) 2) _ (and-right (leb (n .size) 3) _ within)))
+  turns-is = turns-again (n .turns) (leb-true (n .turns) 3 (and-right (leb (n .size) 3) _ within))
 
   module _ (k : ℕ) (family : n .family ≡ k) where
     add-again : addUnused n ≡ true → addFields k (addAt n) ≡ inOrder n
@@ -87,7 +91,19 @@ module _ (n : Numbers) (within : withinOf n ≡ true) where
     indexed-again u = rw (family, size-is, turns-is, eqb-true (n .form) 0 u)
 
     element-again : elementUnused n ≡ true → elementFields k (elementAt n) ≡ inOrder n
-    element-again u = rw (family, size-is, form-is, eqb-true (n .turns) 0 u)
+    element-again u =
+        let form = form-again (n .form) (leb-true (n .form) 2 (and-left _ _ u)) in
+        rw (family, size-is, form, eqb-true (n .turns) 0 (and-right (leb (n .form) 2) _ u))
+
+    group-fields-again : groupUnused n ≡ true → groupFields k (groupAt n) ≡ inOrder n
+    group-fields-again u =
+        let form = group-again (n .form) (and-left _ _ u) in
+        let rest = and-right (eqb (n .form) 2 || eqb (n .form) 4) _ u in
+        let turns = eqb-true (n .turns) 0 (and-left _ _ rest) in
+        let both = and-right (eqb (n .turns) 0) _ rest in
+        let first = eqb-true (n .first) 0 (and-left _ _ both) in
+        let index = eqb-true (n .index) 0 (and-right (eqb (n .first) 0) _ both) in
+        rw (family, size-is, form, turns, first, index)
 
 -- ---- the operation that is named
 
@@ -117,7 +133,8 @@ module _ (n : Numbers) (op : Op) (within : withinOf n ≡ true) where
   by-family (suc (suc (suc (suc (suc zero))))) e h = again (indexedUnused n) (Op.SqrdcmlahIndexed (indexedAt n)) (indexed-again n within 5 e) h
   by-family (suc (suc (suc (suc (suc (suc zero)))))) e h = again (elementUnused n) (Op.Sqrdmlah (elementAt n)) (element-again n within 6 e) h
   by-family (suc (suc (suc (suc (suc (suc (suc zero))))))) e h = again (elementUnused n) (Op.Sqrdmlsh (elementAt n)) (element-again n within 7 e) h
-  by-family (suc (suc (suc (suc (suc (suc (suc (suc k)))))))) e h = absurd (nothing op h)
+  by-family (suc (suc (suc (suc (suc (suc (suc (suc zero)))))))) e h = again (groupUnused n) (Op.Sqdmulh (groupAt n)) (group-fields-again n within 8 e) h
+  by-family (suc (suc (suc (suc (suc (suc (suc (suc (suc k))))))))) e h = absurd (nothing op h)
 
 by-within : (n : Numbers) (op : Op) (t : Bool) → withinOf n ≡ t → pickNamed t (familyNamed n) Named.Nothing ≡ Named.Operation op → fieldsOf op ≡ inOrder n
 unfolding familyNamed

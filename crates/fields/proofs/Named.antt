@@ -24,17 +24,21 @@ family-at n k e = ap (λ (x : ℕ). getD (families n) x Named.Nothing) (sym e)
 past : (k f : ℕ) → k ≤ f → (f ≡ k → ⊥) → (f ≡ k + 1 → ⊥) → (f ≡ k + 2 → ⊥) → (f ≡ k + 3 → ⊥) → k + 4 ≤ f
 past k f h n₀ n₁ n₂ n₃ = omega arith
 
--- the last arm: the family is none of the eight
+past-one : (k f : ℕ) → k ≤ f → (f ≡ k → ⊥) → k + 1 ≤ f
+past-one k f h n = omega arith
+
+-- the last arm: the family is none of the nine
 module _ (n : Numbers) where
   abbrev Not : ℕ → Type 0
   Not k = n .family ≡ k → ⊥
 
-  pub family-rest : Not 0 → Not 1 → Not 2 → Not 3 → Not 4 → Not 5 → Not 6 → Not 7 → Named.Nothing ≡ familyNamed n
+  pub family-rest : Not 0 → Not 1 → Not 2 → Not 3 → Not 4 → Not 5 → Not 6 → Not 7 → Not 8 → Named.Nothing ≡ familyNamed n
   unfolding familyNamed
-  family-rest n₀ n₁ n₂ n₃ n₄ n₅ n₆ n₇ =
+  family-rest n₀ n₁ n₂ n₃ n₄ n₅ n₆ n₇ n₈ =
       let f = n .family in
       let eight : 8 ≤ f = past 4 f (past 0 f (omega arith) n₀ n₁ n₂ n₃) n₄ n₅ n₆ n₇ in
-      sym (List·getD-eq-default (families n) Named.Nothing eight)
+      let nine : 9 ≤ f = past-one 8 f eight n₈ in
+      sym (List·getD-eq-default (families n) Named.Nothing nine)
 
 pub named-within : (n : Numbers) → withinOf n ≡ true → familyNamed n ≡ namedOf n
 unfolding namedOf

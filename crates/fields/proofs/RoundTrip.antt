@@ -1,8 +1,8 @@
 -- `fields-named`: an operation's fields name it. Assumes nothing.
 use mathlib.Core.Path.{_≡_, refl, sym, ap, _∙_}
 use Prim.Native.Nat.{ℕ}
-use mathlib.Core.Bool.{true}
-use lib.Dec.{leb}
+use mathlib.Core.Bool.{true, _||_}
+use lib.Dec.{leb, eqb}
 use lib.ListN.{length}
 use Rattle.isa.specs.declared.types.Size.{Size}
 use Rattle.isa.specs.declared.types.Rotation.{Rotation}
@@ -11,13 +11,16 @@ use Rattle.isa.specs.declared.types.Add.{Add}
 use Rattle.isa.specs.declared.types.Mul.{Mul}
 use Rattle.isa.specs.declared.types.MulIndexed.{MulIndexed}
 use Rattle.isa.specs.declared.types.ByElement.{ByElement}
+use Rattle.isa.specs.declared.types.Group.{Group}
+use Rattle.isa.specs.declared.types.MulGroup.{MulGroup}
 use Rattle.isa.specs.declared.types.Op.{Op}
+use Rattle.isa.specs.Register.{groupCount}
 use Rattle.isa.specs.Decode.{sizeOf, rotationOf}
 use Rattle.isa.specs.Encode.{sizeBits, rotationBits}
 use Rattle.fields.specs.declared.types.Numbers.{Numbers}
 use Rattle.fields.specs.declared.types.Named.{Named}
-use Rattle.fields.specs.Fields.{formNumber, addFields, mulFields, indexedFields, elementFields, fieldsOf}
-use Rattle.fields.specs.Named.{numbersAt, withinOf, formOf, addAt, mulAt, indexedAt, elementAt, familyNamed, namedOf}
+use Rattle.fields.specs.Fields.{formNumber, addFields, mulFields, indexedFields, elementFields, groupFields, fieldsOf}
+use Rattle.fields.specs.Named.{numbersAt, withinOf, formOf, addAt, mulAt, indexedAt, elementAt, namedIf, elementUnused, groupWith, groupAt, groupUnused, familyNamed, namedOf}
 use Rattle.fields.proofs.Named.{named-within}
 
 -- ---- the numbers of a size, a rotation and a form, and back
@@ -56,15 +59,23 @@ form-back Form.Scalar = refl
 form-back Form.Vector64 = refl
 form-back Form.Vector128 = refl
 
+group-unused : (g : Group) → (eqb (groupCount g) 2 || eqb (groupCount g) 4) ≡ true
+group-unused Group.Two = refl
+group-unused Group.Four = refl
+
+group-with-back : (g : Group) → groupWith (groupCount g) ≡ g
+group-with-back Group.Two = refl
+group-with-back Group.Four = refl
+
 -- ---- an operation's fields name it
 
-within-all : (n : Numbers) → leb (n .size) 3 ≡ true → leb (n .form) 2 ≡ true → leb (n .turns) 3 ≡ true → withinOf n ≡ true
-within-all n z f t = rw (z, f, t)
+within-all : (n : Numbers) → leb (n .size) 3 ≡ true → leb (n .turns) 3 ≡ true → withinOf n ≡ true
+within-all n z t = rw (z, t)
 
 module _ (family : ℕ) where
   add-within : (a : Add) → withinOf (numbersAt (addFields family a)) ≡ true
   unfolding numbersAt
-  add-within a = within-all (numbersAt (addFields family a)) (size-small (a .size)) refl (turns-small (a .rot))
+  add-within a = within-all (numbersAt (addFields family a)) (size-small (a .size)) (turns-small (a .rot))
 
   add-back : (a : Add) → addAt (numbersAt (addFields family a)) ≡ a
   unfolding numbersAt
@@ -72,7 +83,7 @@ module _ (family : ℕ) where
 
   mul-within : (a : Mul) → withinOf (numbersAt (mulFields family a)) ≡ true
   unfolding numbersAt
-  mul-within a = within-all (numbersAt (mulFields family a)) (size-small (a .size)) refl (turns-small (a .rot))
+  mul-within a = within-all (numbersAt (mulFields family a)) (size-small (a .size)) (turns-small (a .rot))
 
   mul-back : (a : Mul) → mulAt (numbersAt (mulFields family a)) ≡ a
   unfolding numbersAt
@@ -80,7 +91,7 @@ module _ (family : ℕ) where
 
   indexed-within : (a : MulIndexed) → withinOf (numbersAt (indexedFields family a)) ≡ true
   unfolding numbersAt
-  indexed-within a = within-all (numbersAt (indexedFields family a)) (size-small (a .size)) refl (turns-small (a .rot))
+  indexed-within a = within-all (numbersAt (indexedFields family a)) (size-small (a .size)) (turns-small (a .rot))
 
   indexed-back : (a : MulIndexed) → indexedAt (numbersAt (indexedFields family a)) ≡ a
   unfolding numbersAt
@@ -88,11 +99,20 @@ module _ (family : ℕ) where
 
   element-within : (a : ByElement) → withinOf (numbersAt (elementFields family a)) ≡ true
   unfolding numbersAt
-  element-within a = within-all (numbersAt (elementFields family a)) (size-small (a .size)) (form-small (a .form)) refl
+  element-within a = within-all (numbersAt (elementFields family a)) (size-small (a .size)) refl
 
-  element-back : (a : ByElement) → elementAt (numbersAt (elementFields family a)) ≡ a
+  group-within : (a : MulGroup) → withinOf (numbersAt (groupFields family a)) ≡ true
   unfolding numbersAt
-  element-back a = rw (form-back (a .form), size-back (a .size))
+  group-within a = within-all (numbersAt (groupFields family a)) (size-small (a .size)) refl
+
+  -- a form that the family has
+  element-named : (mk : ByElement → Op) (a : ByElement) → namedIf (elementUnused (numbersAt (elementFields family a))) (mk (elementAt (numbersAt (elementFields family a)))) ≡ Named.Operation (mk a)
+  unfolding numbersAt
+  element-named mk a = rw (form-small (a .form), form-back (a .form), size-back (a .size))
+
+  group-named : (a : MulGroup) → namedIf (groupUnused (numbersAt (groupFields family a))) (Op.Sqdmulh (groupAt (numbersAt (groupFields family a)))) ≡ Named.Operation (Op.Sqdmulh a)
+  unfolding numbersAt
+  group-named a = rw (group-unused (a .group), group-with-back (a .group), size-back (a .size))
 
 pub fields-named : (op : Op) → namedOf (numbersAt (fieldsOf op)) ≡ Named.Operation op
 unfolding fieldsOf numbersAt familyNamed
@@ -102,8 +122,9 @@ fields-named (Op.Cmla a) = sym (named-within (numbersAt (mulFields 2 a)) (mul-wi
 fields-named (Op.CmlaIndexed a) = sym (named-within (numbersAt (indexedFields 3 a)) (indexed-within 3 a)) ∙ ap (λ (x : MulIndexed). Named.Operation (Op.CmlaIndexed x)) (indexed-back 3 a)
 fields-named (Op.Sqrdcmlah a) = sym (named-within (numbersAt (mulFields 4 a)) (mul-within 4 a)) ∙ ap (λ (x : Mul). Named.Operation (Op.Sqrdcmlah x)) (mul-back 4 a)
 fields-named (Op.SqrdcmlahIndexed a) = sym (named-within (numbersAt (indexedFields 5 a)) (indexed-within 5 a)) ∙ ap (λ (x : MulIndexed). Named.Operation (Op.SqrdcmlahIndexed x)) (indexed-back 5 a)
-fields-named (Op.Sqrdmlah a) = sym (named-within (numbersAt (elementFields 6 a)) (element-within 6 a)) ∙ ap (λ (x : ByElement). Named.Operation (Op.Sqrdmlah x)) (element-back 6 a)
-fields-named (Op.Sqrdmlsh a) = sym (named-within (numbersAt (elementFields 7 a)) (element-within 7 a)) ∙ ap (λ (x : ByElement). Named.Operation (Op.Sqrdmlsh x)) (element-back 7 a)
+fields-named (Op.Sqrdmlah a) = sym (named-within (numbersAt (elementFields 6 a)) (element-within 6 a)) ∙ element-named 6 Op.Sqrdmlah a
+fields-named (Op.Sqrdmlsh a) = sym (named-within (numbersAt (elementFields 7 a)) (element-within 7 a)) ∙ element-named 7 Op.Sqrdmlsh a
+fields-named (Op.Sqdmulh a) = sym (named-within (numbersAt (groupFields 8 a)) (group-within 8 a)) ∙ group-named 8 a
 
 pub fields-eight : (op : Op) → length (fieldsOf op) ≡ 8
 unfolding fieldsOf
@@ -115,3 +136,4 @@ fields-eight (Op.Sqrdcmlah a) = refl
 fields-eight (Op.SqrdcmlahIndexed a) = refl
 fields-eight (Op.Sqrdmlah a) = refl
 fields-eight (Op.Sqrdmlsh a) = refl
+fields-eight (Op.Sqdmulh a) = refl

@@ -1,6 +1,6 @@
 -- Which operation eight fields name.
 use Prim.Native.Nat.{ℕ, zero, suc}
-use mathlib.Core.Bool.{Bool, true, false, _&&_}
+use mathlib.Core.Bool.{Bool, true, false, _&&_, _||_}
 use mathlib.Core.List.{List, [], _∷_}
 use lib.Dec.{eqb, leb}
 use lib.ListN.{getD}
@@ -10,6 +10,8 @@ use Rattle.isa.specs.declared.types.Add.{Add}
 use Rattle.isa.specs.declared.types.Mul.{Mul}
 use Rattle.isa.specs.declared.types.MulIndexed.{MulIndexed}
 use Rattle.isa.specs.declared.types.ByElement.{ByElement}
+use Rattle.isa.specs.declared.types.Group.{Group}
+use Rattle.isa.specs.declared.types.MulGroup.{MulGroup}
 use Rattle.isa.specs.declared.types.Op.{Op}
 use Rattle.fields.specs.declared.types.Numbers.{Numbers}
 use Rattle.fields.specs.declared.types.Named.{Named}
@@ -27,15 +29,23 @@ numbersAt l = record {
   index = getD l 7 0;
 }
 
--- a size is 0 to 3, a form 0 to 2, the turns 0 to 3; writing judges registers and the index
+-- a size is 0 to 3, the turns 0 to 3; writing judges registers and the index
 abbrev pub withinOf : Numbers → Bool
-withinOf n = leb (n .size) 3 && (leb (n .form) 2 && leb (n .turns) 3)
+withinOf n = leb (n .size) 3 && leb (n .turns) 3
 
 -- 0 scalar, 1 vector of 64 bits, 2 vector of 128
 abbrev pub formOf : ℕ → Form
 formOf zero = Form.Scalar
 formOf (suc zero) = Form.Vector64
 formOf (suc (suc n)) = Form.Vector128
+
+-- the group of 2 registers, or of 4
+abbrev pub pickGroup : Bool → Group
+pickGroup true = Group.Two
+pickGroup false = Group.Four
+
+abbrev pub groupWith : ℕ → Group
+groupWith n = pickGroup (eqb n 2)
 
 abbrev pub addAt : Numbers → Add
 addAt n = record { size = sizeOf (n .size); rot = rotationOf (n .turns); zm = n .second; zdn = n .destination }
@@ -49,11 +59,14 @@ indexedAt n = record { size = sizeOf (n .size); rot = rotationOf (n .turns); zm 
 abbrev pub elementAt : Numbers → ByElement
 elementAt n = record { form = formOf (n .form); size = sizeOf (n .size); rm = n .second; index = n .index; rn = n .first; rd = n .destination }
 
+abbrev pub groupAt : Numbers → MulGroup
+groupAt n = record { size = sizeOf (n .size); zm = n .second; zdn = n .destination; group = groupWith (n .form) }
+
 abbrev pub namedIf : Bool → Op → Named
 namedIf true op = Named.Operation op
 namedIf false op = Named.Nothing
 
--- what the family does not use has to be 0
+-- what the family does not use has to be 0, and a form one that it has
 abbrev pub addUnused : Numbers → Bool
 addUnused n = eqb (n .form) 0 && (eqb (n .first) 0 && eqb (n .index) 0)
 
@@ -64,7 +77,10 @@ abbrev pub indexedUnused : Numbers → Bool
 indexedUnused n = eqb (n .form) 0
 
 abbrev pub elementUnused : Numbers → Bool
-elementUnused n = eqb (n .turns) 0
+elementUnused n = leb (n .form) 2 && eqb (n .turns) 0
+
+abbrev pub groupUnused : Numbers → Bool
+groupUnused n = (eqb (n .form) 2 || eqb (n .form) 4) && (eqb (n .turns) 0 && (eqb (n .first) 0 && eqb (n .index) 0))
 
 -- the families in the order of the listing's names
 abbrev pub families : Numbers → List Named
@@ -76,7 +92,8 @@ families n =
     namedIf (mulUnused n) (Op.Sqrdcmlah (mulAt n)) ∷
     namedIf (indexedUnused n) (Op.SqrdcmlahIndexed (indexedAt n)) ∷
     namedIf (elementUnused n) (Op.Sqrdmlah (elementAt n)) ∷
-    namedIf (elementUnused n) (Op.Sqrdmlsh (elementAt n)) ∷ []
+    namedIf (elementUnused n) (Op.Sqrdmlsh (elementAt n)) ∷
+    namedIf (groupUnused n) (Op.Sqdmulh (groupAt n)) ∷ []
 
 unfoldable pub familyNamed : Numbers → Named
 familyNamed n = getD (families n) (n .family) Named.Nothing

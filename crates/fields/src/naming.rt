@@ -2,7 +2,7 @@
 ghost use mathlib.Core.Path.{_≡_};
 ghost use lib.ListN.{length};
 ghost use Rattle.codec.specs.Pair.{addBy, mulBy, indexedBy, elementBy};
-ghost use Rattle.fields.specs.Named.{numbersAt, withinOf, formOf, addAt, mulAt, indexedAt, elementAt, namedIf, addUnused, mulUnused, indexedUnused, elementUnused, familyNamed, namedOf};
+ghost use Rattle.fields.specs.Named.{numbersAt, withinOf, formOf, addAt, mulAt, indexedAt, elementAt, groupWith, groupAt, namedIf, addUnused, mulUnused, indexedUnused, elementUnused, groupUnused, familyNamed, namedOf};
 use crate::types::Named;
 use crate::types::Numbers;
 use codec::rotation_of;
@@ -10,7 +10,9 @@ use codec::size_of;
 use isa::types::Add;
 use isa::types::ByElement;
 use isa::types::Form;
+use isa::types::Group;
 use isa::types::Mul;
+use isa::types::MulGroup;
 use isa::types::MulIndexed;
 use isa::types::Op;
 
@@ -34,7 +36,7 @@ pub fn read_numbers(fields: &[u32]) -> Numbers
 fn within(n: Numbers) -> bool
     ensures { λ r. ⌜ r ≡ withinOf n ⌝ }
 {
-    (n.size <= 3) & ((n.form <= 2) & (n.turns <= 3))
+    (n.size <= 3) & (n.turns <= 3)
 }
 
 fn form_of(n: u32) -> Form
@@ -45,6 +47,12 @@ fn form_of(n: u32) -> Form
         1 => Form::Vector64,
         _ => Form::Vector128,
     }
+}
+
+fn group_with(n: u32) -> Group
+    ensures { λ r. ⌜ r ≡ groupWith n ⌝ }
+{
+    if n == 2 { Group::Two } else { Group::Four }
 }
 
 // ---- the fields of an operation
@@ -98,6 +106,17 @@ fn element_at(n: Numbers) -> ByElement
     }
 }
 
+fn group_at(n: Numbers) -> MulGroup
+    ensures { λ r. ⌜ r ≡ groupAt n ⌝ }
+{
+    MulGroup {
+        size: size_of(n.size),
+        zm: n.second,
+        zdn: n.destination,
+        group: group_with(n.form),
+    }
+}
+
 // ---- families that differ in one choice
 
 fn add_op(saturating: bool, a: Add) -> Op
@@ -140,7 +159,7 @@ fn element_op(minus: bool, a: ByElement) -> Op
     }
 }
 
-// ---- an operation, where what the family does not use is 0
+// ---- an operation, where what the family does not use is 0 and the form is one that it has
 
 fn named_if(unused: bool, op: Op) -> Named
     ensures { λ r. ⌜ r ≡ namedIf unused op ⌝ }
@@ -175,7 +194,16 @@ fn indexed_named(rounding: bool, n: Numbers) -> Named
 fn element_named(minus: bool, n: Numbers) -> Named
     ensures { λ r. ⌜ r ≡ namedIf (elementUnused n) (elementBy minus (elementAt n)) ⌝ }
 {
-    named_if(n.turns == 0, element_op(minus, element_at(n)))
+    let unused = (n.form <= 2) & (n.turns == 0);
+    named_if(unused, element_op(minus, element_at(n)))
+}
+
+fn group_named(n: Numbers) -> Named
+    ensures { λ r. ⌜ r ≡ namedIf (groupUnused n) (Op.Sqdmulh (groupAt n)) ⌝ }
+{
+    let form = (n.form == 2) | (n.form == 4);
+    let unused = form & ((n.turns == 0) & ((n.first == 0) & (n.index == 0)));
+    named_if(unused, Op::Sqdmulh(group_at(n)))
 }
 
 fn family_named(n: Numbers) -> Named
@@ -191,6 +219,7 @@ fn family_named(n: Numbers) -> Named
         5 => indexed_named(true, n),
         6 => element_named(false, n),
         7 => element_named(true, n),
+        8 => group_named(n),
         _ => Named::Nothing,
     }
 }

@@ -1,13 +1,15 @@
 // The eight numbers of an operation.
 ghost use mathlib.Core.Path.{_≡_};
 ghost use lib.ListN.{length};
-ghost use Rattle.fields.specs.Fields.{formNumber, addFields, mulFields, indexedFields, elementFields, fieldsOf};
+ghost use Rattle.fields.specs.Fields.{formNumber, addFields, mulFields, indexedFields, elementFields, groupFields, fieldsOf};
+use codec::by_group;
 use codec::rotation_bits;
 use codec::size_bits;
 use isa::types::Add;
 use isa::types::ByElement;
 use isa::types::Form;
 use isa::types::Mul;
+use isa::types::MulGroup;
 use isa::types::MulIndexed;
 use isa::types::Op;
 
@@ -91,6 +93,23 @@ fn element_fields(family: u32, a: ByElement) -> [u32; 8]
     ]
 }
 
+fn group_fields(family: u32, a: MulGroup) -> [u32; 8]
+    ensures { λ r. ⌜ r ≡ groupFields family a ⌝ }
+{
+    let size = a.size;
+    let group = a.group;
+    [
+        family,
+        size_bits(size),
+        by_group(2, 4, group),
+        0,
+        a.zdn,
+        0,
+        a.zm,
+        0,
+    ]
+}
+
 // The families are numbered in the order of the listing's names.
 pub fn fields_of(op: Op) -> [u32; 8]
     ensures { λ r. ⌜ r ≡ fieldsOf op ⌝ }
@@ -104,6 +123,7 @@ pub fn fields_of(op: Op) -> [u32; 8]
         Op::SqrdcmlahIndexed(a) => indexed_fields(5, a),
         Op::Sqrdmlah(a) => element_fields(6, a),
         Op::Sqrdmlsh(a) => element_fields(7, a),
+        Op::Sqdmulh(a) => group_fields(8, a),
     }
 }
 

@@ -5,6 +5,7 @@ use mathlib.Core.List.{List}
 use Rattle.isa.specs.declared.types.Size.{Size}
 use Rattle.isa.specs.declared.types.Rotation.{Rotation}
 use Rattle.isa.specs.declared.types.Form.{Form}
+use Rattle.isa.specs.declared.types.Group.{Group}
 use Rattle.isa.specs.declared.types.Op.{Op}
 use Rattle.isa.specs.Encode.{answer, writeChecks, encodeOf}
 use Rattle.grammar.specs.declared.types.LineRead.{LineRead}
@@ -36,6 +37,28 @@ vector-line = refl
 scalar-line : lineOf (Op.Sqrdmlsh (record { size = Size.H; rm = 2; index = 7; rn = 1; rd = 0; form = Form.Scalar })) ≡ ascii "SQRDMLSH H0, H1, V2.H[7]"
 unfolding lineOf patternOf valuesOf variables decimal
 scalar-line = refl
+
+-- A3's line; and one of the four registers from 28 on, the longest
+group-line : lineOf (Op.Sqdmulh (record { size = Size.H; zm = 2; zdn = 0; group = Group.Two })) ≡ ascii "SQDMULH { Z0.H-Z1.H }, { Z0.H-Z1.H }, Z2.H"
+unfolding lineOf patternOf valuesOf variables decimal
+group-line = refl
+
+group-read : readOf (ascii "SQDMULH { Z28.D-Z31.D }, { Z28.D-Z31.D }, Z15.D") ≡ LineRead.Operation (Op.Sqdmulh (record { size = Size.D; zm = 15; zdn = 28; group = Group.Four }))
+unfolding readOf search follow variables commonPrefix decimal placeOf placeOfTens tens oneDigit twoDigits guessNumber startingWith guessText
+group-read = refl
+
+-- no group starts at register 5, and none has three registers; a group of two that starts at 3 is refused with 14, before the room
+odd-start : readOf (ascii "SQDMULH { Z5.H-Z6.H }, { Z5.H-Z6.H }, Z2.H") ≡ LineRead.NotLine 11
+unfolding readOf search follow variables commonPrefix decimal placeOf placeOfTens tens oneDigit twoDigits guessNumber startingWith guessText
+odd-start = refl
+
+three-registers : readOf (ascii "SQDMULH { Z4.H-Z6.H }, { Z4.H-Z6.H }, Z2.H") ≡ LineRead.NotLine 16
+unfolding readOf search follow variables commonPrefix decimal placeOf placeOfTens tens oneDigit twoDigits guessNumber startingWith guessText
+three-registers = refl
+
+group-start : lineAnswer (Op.Sqdmulh (record { size = Size.H; zm = 2; zdn = 3; group = Group.Two })) 0 ≡ LineWritten.GroupStart
+unfolding lineAnswer encodeOf answer writeChecks
+group-start = refl
 
 -- the line has 24 bytes: room for 24 is enough, and behind it the buffer is as it was; room for 23 is not
 written : writeOf (Op.Sqrdmlsh (record { size = Size.H; rm = 2; index = 7; rn = 1; rd = 0; form = Form.Scalar })) (ascii "..........................") ≡ record { answer = LineWritten.Length 24; out = ascii "SQRDMLSH H0, H1, V2.H[7].." }

@@ -94,7 +94,7 @@ lacks-at n (x ∷ ns) h zero k e = eqb-false x n (not-true _ (and-true (not (eqb
 lacks-at n (x ∷ ns) h (suc v) k e = lacks-at n ns (and-true (not (eqb x n)) (lacks n ns) h .1) v (omega arith) e
 
 -- a number that is there is at its place
-place-is : (ns : List ℕ) → once ns ≡ true → (v : ℕ) → v < length ns → placeOf (getD ns v 0) ns ≡ v
+pub place-is : (ns : List ℕ) → once ns ≡ true → (v : ℕ) → v < length ns → placeOf (getD ns v 0) ns ≡ v
 unfolding placeOf
 place-is [] h v k = absurd (omega arith)
 place-is (n ∷ ns) h zero k = rw (eq-eqb n n refl)
@@ -103,7 +103,7 @@ place-is (n ∷ ns) h (suc v) k =
     rw (ne-eqb n (getD ns v 0) (λ e. lacks-at n ns (p .1) v (omega arith) (sym e))) (ap suc (place-is ns (p .2) v (omega arith)))
 
 -- at a place that was found stands what was looked for
-place-has : (n : ℕ) (ns : List ℕ) → placeOf n ns < length ns → getD ns (placeOf n ns) 0 ≡ n
+pub place-has : (n : ℕ) (ns : List ℕ) → placeOf n ns < length ns → getD ns (placeOf n ns) 0 ≡ n
 unfolding placeOf
 place-has n [] h = absurd (omega arith)
 place-has n (x ∷ ns) h =

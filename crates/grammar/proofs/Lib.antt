@@ -12,4 +12,3 @@ pub mod Packed
 pub mod Written
 pub mod Returned
 pub mod Width
-pub mod Groups

@@ -13,7 +13,7 @@ use Rattle.grammar.specs.declared.types.LineRead.{LineRead}
 use Rattle.grammar.specs.Template.{Item, fill}
 use Rattle.grammar.specs.Follow.{commonPrefix, follow}
 use Rattle.grammar.specs.Search.{Search, read, unread, blank, search}
-use Rattle.grammar.specs.Grammar.{variables, templates, patternOf, valuesOf, lineOf}
+use Rattle.grammar.specs.Grammar.{variables, templates, patternCount, patternOf, valuesOf, lineOf}
 use Rattle.grammar.specs.Line.{Writable, LineOf, Begins, NoLine}
 use Rattle.grammar.specs.Read.{makeAt, readAs, readOf}
 use Rattle.grammar.proofs.Prefix.{common-own, common-le, common-le-right, common-take, common-begins}
@@ -25,7 +25,7 @@ use Rattle.grammar.proofs.Patterns.{Makes, pattern-makes, Remakes}
 use Rattle.grammar.proofs.Remakes.{remakes}
 
 -- what a pattern makes of values for its letters is an operation with that line
-made-line : (p : ℕ) (r : ℕ → ℕ) (s : List ℕ) → p < 16 → Made variables most readable (getD templates p []) r s → LineOf (makeAt p r) s
+made-line : (p : ℕ) (r : ℕ → ℕ) (s : List ℕ) → p < patternCount → Made variables most readable (getD templates p []) r s → LineOf (makeAt p r) s
 unfolding lineOf
 made-line p r s h m =
     let o = pattern-makes p h r (m .filled) in
@@ -58,7 +58,7 @@ read-of-line s op l =
     ap readAs (f .is) ∙ ap (λ (j : ℕ). LineRead.Operation (makeAt j (f .values))) z ∙ ap LineRead.Operation (m .again (f .values) (f .agrees) (f .made .filled))
 
 -- a pattern that has a text whole is the one that it is read by
-pub read-by-pattern : (p : ℕ) (s : List ℕ) → p < 16 → follow variables (getD templates p []) blank s .whole ≡ true → readOf s ≡ LineRead.Operation (makeAt p (follow variables (getD templates p []) blank s .values))
+pub read-by-pattern : (p : ℕ) (s : List ℕ) → p < patternCount → follow variables (getD templates p []) blank s .whole ≡ true → readOf s ≡ LineRead.Operation (makeAt p (follow variables (getD templates p []) blank s .values))
 read-by-pattern p s h w =
     read-of-line s (makeAt p (follow variables (getD templates p []) blank s .values))
     (made-line p (follow variables (getD templates p []) blank s .values) s h (sound variables most readable (getD templates p []) blank s (blank-partly most) w))
@@ -84,7 +84,7 @@ begins-below s n j u h b =
     omega (arith, reached, along, u .least p (m .within))
 
 -- some pattern's reach is a beginning that some line has
-begins-at : (s : List ℕ) (p : ℕ) → p < 16 → Begins (take (follow variables (getD templates p []) blank s .reach) s)
+begins-at : (s : List ℕ) (p : ℕ) → p < patternCount → Begins (take (follow variables (getD templates p []) blank s .reach) s)
 begins-at s p h =
     let t = getD templates p [] in
     let o = lower variables most readable t blank s (blank-partly most) in
@@ -97,7 +97,7 @@ begins-at s p h =
       text = l .text ∙ subst (λ (n : ℕ). fill variables t (o .values) ≡ take n s ++ drop n (fill variables t (o .values))) (o .goes) (common-take (fill variables t (o .values)) s);
     }
 
-reach-within : (s : List ℕ) (p : ℕ) → p < 16 → follow variables (getD templates p []) blank s .reach ≤ length s
+reach-within : (s : List ℕ) (p : ℕ) → p < patternCount → follow variables (getD templates p []) blank s .reach ≤ length s
 reach-within s p h =
     let t = getD templates p [] in
     let o = lower variables most readable t blank s (blank-partly most) in

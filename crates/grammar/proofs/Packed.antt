@@ -1,135 +1,42 @@
 -- The code's tables hold the alphabet, and the digits that the code looks at give the number that is meant. Assumes nothing.
-use Prim.Native.Nat.{ℕ, zero, suc, _+_, _-_, _*_, _/_, _%_, _≤_, _<_, min}
+use Prim.Native.Nat.{ℕ, zero, suc, _+_, _-_, _*_, _/_, _%_, _^_, _≤_, _<_}
 use mathlib.Core.Path.{_≡_, refl, sym, ap, _∙_, subst}
-use mathlib.Core.Bool.{Bool, true, false, _&&_}
-use mathlib.Core.List.{List, [], _∷_}
+use mathlib.Core.Bool.{Bool, true, false, _&&_, _||_}
+use mathlib.Core.List.{List, [], _∷_, map}
 use native.Mathlib.Omega.{arith}
+use native.Mathlib.Nat.{zero-add}
 use native.Mathlib.Decide.{ℕ-discrete, decLe}
-use borrow.Author.Tests.{eq-eqb, ne-eqb, le-leb, lt-leb, lt-ltb, le-ltb, leb-true, ltb-true, eqb-true}
+use borrow.Author.Tests.{eq-eqb, ne-eqb, le-leb, lt-leb, lt-ltb, le-ltb, leb-true, ltb-true, ltb-false, eqb-true}
 use lib.Dec.{eqb, leb, ltb}
 use lib.ListN.{length, getD, drop, drop-of-length-le}
 use lib.Seq.{drop-cons, drop-drop}
 use Rattle.grammar.specs.Template.{Choices, numbers, texts, decimal, textOf, count, pickNumber}
-use Rattle.grammar.specs.Follow.{isDigit, placeOf, placeOfTens, found, tens, oneDigit, twoDigits, guessNumber, startingWith, guessText, guess, commonPrefix}
-use Rattle.grammar.specs.Grammar.{progression, below, unused, alphabet}
-use Rattle.grammar.specs.Packed.{unpack, textBytes, firsts, counts, packedTexts, digitOf}
+use Rattle.grammar.specs.Follow.{isDigit, placeOf, placeOfTens, found, tens, oneDigit, twoDigits, guessNumber, startingWith, guessText, guess, unset, commonPrefix}
+use Rattle.grammar.specs.Grammar.{progression, below, unused, alphabet, letterCount}
+use Rattle.grammar.specs.Packed.{unpack, textBytes, rows, RowOf, Row, firstOf, shiftOf, countOf, packedTexts, numbersOf, textsOf, digitOf, placed, placedTwo}
 use Rattle.grammar.proofs.Prefix.{common-same, common-other, common-none, common-nil}
-use Rattle.grammar.proofs.Guess.{and-true, differ, text-long, sound-texts}
+use Rattle.grammar.proofs.Guess.{and-true, differ, once, soundChoices, place-is, place-has, text-long, sound-texts}
+use Rattle.grammar.proofs.Apart.{all-at}
 use Rattle.grammar.proofs.Alphabet.{sound-letter}
 use Rattle.grammar.proofs.Patterns.{_⨾_, Each, each-at}
 
--- ---- numbers below n
+-- ---- numbers a step apart
 
-pub progression-length : (i n : ℕ) → length (progression i 1 n) ≡ n
-progression-length i zero = refl
-progression-length i (suc n) = ap suc (progression-length (i + 1) n)
+pub progression-length : (i k n : ℕ) → length (progression i k n) ≡ n
+progression-length i k zero = refl
+progression-length i k (suc n) = ap suc (progression-length (i + k) k n)
 
-pub progression-at : (i n v : ℕ) → v < n → getD (progression i 1 n) v 0 ≡ i + v
-progression-at i zero v h = absurd (omega arith)
-progression-at i (suc n) zero h = omega arith
-progression-at i (suc n) (suc v) h = progression-at (i + 1) n v (omega arith) ∙ omega arith
-
-place-below : (i n m : ℕ) → i ≤ m → placeOf m (progression i 1 n) ≡ min (m - i) n
-unfolding placeOf
-place-below i zero m h = omega arith
-place-below i (suc n) m h =
-    elim (ℕ-discrete i m) [
-      | yes e ↦ rw (eq-eqb i m e) (omega arith)
-      | no e ↦ rw (ne-eqb i m e) (omega (arith, place-below (i + 1) n m (omega arith)))
-    ]
-
-no-tens : (i n f : ℕ) → i + n ≤ f → 1 ≤ f → placeOfTens f (progression i 1 n) ≡ n
-unfolding placeOfTens
-no-tens i zero f h k = refl
-no-tens i (suc n) f h k = rw (ne-eqb (i / 10) f (λ e. omega arith)) (ap suc (no-tens (i + 1) n f (omega arith) k))
-
--- the number that two digits mean, as the code tests them
-abbrev pub byDigits : ℕ → ℕ → ℕ → ℕ
-byDigits n f e = pickNumber (eqb f 0) 0 (pickNumber (leb n f) 0 (pickNumber (eqb f 10) 0 (pickNumber (eqb e 10) f (pickNumber (ltb (f * 10 + e) n) (f * 10 + e) f))))
-
-found-below : (n m : ℕ) → m < n → found (placeOf m (progression 0 1 n)) (progression 0 1 n) ≡ true
-found-below n m h = lt-ltb (placeOf m (progression 0 1 n)) (length (progression 0 1 n)) (omega (arith, place-below 0 n m (omega arith), progression-length 0 n))
-
-not-below : (n m : ℕ) → n ≤ m → found (placeOf m (progression 0 1 n)) (progression 0 1 n) ≡ false
-not-below n m h = le-ltb (placeOf m (progression 0 1 n)) (length (progression 0 1 n)) (omega (arith, place-below 0 n m (omega arith), progression-length 0 n))
-
-place-is-below : (n m : ℕ) → m < n → placeOf m (progression 0 1 n) ≡ m
-place-is-below n m h = omega (arith, place-below 0 n m (omega arith))
-
-one-low : (n f : ℕ) → f < n → oneDigit (progression 0 1 n) f ≡ f
-unfolding oneDigit
-one-low n f h = rw (found-below n f h) (place-is-below n f h)
-
-one-high : (n f : ℕ) → n ≤ f → 1 ≤ f → oneDigit (progression 0 1 n) f ≡ 0
-unfolding oneDigit tens
-one-high n f h k =
-    let t : found (placeOfTens f (progression 0 1 n)) (progression 0 1 n) ≡ false = le-ltb (placeOfTens f (progression 0 1 n)) (length (progression 0 1 n)) (omega (arith, no-tens 0 n f (omega arith) k, progression-length 0 n)) in
-    rw (not-below n f h, le-leb 1 f k, t)
+progression-at : (i k n v : ℕ) → v < n → getD (progression i k n) v 0 ≡ i + v * k
+progression-at i k zero v h = absurd (omega arith)
+progression-at i k (suc n) zero h = omega arith
+progression-at i k (suc n) (suc v) h =
+    let e : suc v * k ≡ k + v * k = omega arith in
+    progression-at (i + k) k n v (omega arith) ∙ omega arith
 
 digit-low : (b : ℕ) → isDigit b ≡ true → (48 ≤ b) × (b ≤ 57)
 digit-low b h =
     let p = and-true (leb 48 b) (leb b 57) h in
     (leb-true 48 b (p .0), leb-true b 57 (p .1))
-
-by-one : (n f : ℕ) → 1 ≤ n → f ≤ 9 → oneDigit (progression 0 1 n) f ≡ byDigits n f 10
-by-one n f o h =
-    elim (ℕ-discrete f 0) [
-      | yes z ↦ rw (eq-eqb f 0 z) (ap (oneDigit (progression 0 1 n)) z ∙ one-low n 0 (omega arith))
-      | no z ↦
-          elim (decLe n f) [
-            | yes k ↦ rw (ne-eqb f 0 z, le-leb n f k) (one-high n f k (omega arith))
-            | no k ↦ rw (ne-eqb f 0 z, lt-leb n f (omega arith), ne-eqb f 10 (λ e. omega arith)) (one-low n f (omega arith))
-          ]
-    ]
-
--- a digit follows
-by-two : (n f b : ℕ) (s : List ℕ) → 1 ≤ n → f ≤ 9 → isDigit b ≡ true → twoDigits (progression 0 1 n) f (b ∷ s) ≡ byDigits n f (b - 48)
-unfolding twoDigits
-by-two n f b s o h t =
-    let d = digit-low b t in
-    elim (ℕ-discrete f 0) [
-      | yes z ↦ rw (t, z) (one-low n 0 (omega arith))
-      | no z ↦
-          let one = le-leb 1 f (omega arith) in
-          let first = ne-eqb f 0 z in
-          elim (decLe n f) [
-            | yes k ↦ rw (t, one, not-below n (f * 10 + (b - 48)) (omega arith), first, le-leb n f k) (one-high n f k (omega arith))
-            | no k ↦
-                let low = lt-leb n f (omega arith) in
-                let ten = ne-eqb f 10 (λ e. omega arith) in
-                let next = ne-eqb (b - 48) 10 (λ e. omega arith) in
-                elim (decLe (suc (f * 10 + (b - 48))) n) [
-                  | yes l ↦ rw (t, one, found-below n (f * 10 + (b - 48)) l, first, low, ten, next, lt-ltb (f * 10 + (b - 48)) n l) (place-is-below n (f * 10 + (b - 48)) l)
-                  | no l ↦ rw (t, one, not-below n (f * 10 + (b - 48)) (omega arith), first, low, ten, next, le-ltb (f * 10 + (b - 48)) n (omega arith)) (one-low n f (omega arith))
-                ]
-          ]
-    ]
-
-by-second : (n f : ℕ) (s : List ℕ) → 1 ≤ n → f ≤ 9 → twoDigits (progression 0 1 n) f s ≡ byDigits n f (digitOf s)
-unfolding twoDigits digitOf
-by-second n f [] o h = by-one n f o h
-by-second n f (b ∷ s) o h = go (isDigit b) refl
-  where
-    go : (t : Bool) → isDigit b ≡ t → twoDigits (progression 0 1 n) f (b ∷ s) ≡ byDigits n f (digitOf (b ∷ s))
-    go false t = rw t (by-one n f o h)
-    go true t = by-two n f b s o h t ∙ ap (λ (z : Bool). byDigits n f (pickNumber z (b - 48) 10)) (sym t)
-
-pub by-digits : (n : ℕ) (s : List ℕ) → 1 ≤ n → guessNumber (progression 0 1 n) s ≡ byDigits n (digitOf s) (digitOf (drop 1 s))
-unfolding guessNumber digitOf
-by-digits n [] o =
-    elim (decLe n 10) [
-      | yes k ↦ rw (le-leb n 10 k)
-      | no k ↦ rw (lt-leb n 10 (omega arith))
-    ]
-by-digits n (b ∷ s) o = go (isDigit b) refl
-  where
-    go : (t : Bool) → isDigit b ≡ t → guessNumber (progression 0 1 n) (b ∷ s) ≡ byDigits n (digitOf (b ∷ s)) (digitOf s)
-    go true t = rw t (by-second n (b - 48) s o (omega (arith, digit-low b t .0, digit-low b t .1)))
-    go false t =
-        elim (decLe n 10) [
-          | yes k ↦ rw (t, le-leb n 10 k)
-          | no k ↦ rw (t, lt-leb n 10 (omega arith))
-        ]
 
 -- ---- the digits that the code looks at
 
@@ -150,46 +57,187 @@ digit-above s at h k = digit-here s at h ∙ rw (le-leb 48 (getD s at 0) (omega 
 pub digit-there : (s : List ℕ) (at : ℕ) → at < length s → 48 ≤ getD s at 0 → getD s at 0 ≤ 57 → digitOf (drop at s) ≡ getD s at 0 - 48
 digit-there s at h k l = digit-here s at h ∙ rw (le-leb 48 (getD s at 0) k, le-leb (getD s at 0) 57 l)
 
-module _ (n : ℕ) (s : List ℕ) (at : ℕ) (o : 1 ≤ n) where
-  abbrev Meant : ℕ → Type 0
-  Meant v = v ≡ guessNumber (progression 0 1 n) (drop at s)
+module _ (ns : List ℕ) (f : ℕ) (u : List ℕ) where
+  either : (t : Bool) (m : ℕ) → pickNumber (t || true) unset m ≡ unset
+  either true m = refl
+  either false m = refl
 
-  meant : (v : ℕ) → byDigits n (digitOf (drop at s)) (digitOf (drop (at + 1) s)) ≡ v → Meant v
-  meant v h = sym (by-digits n (drop at s) o ∙ ap (λ (u : List ℕ). byDigits n (digitOf (drop at s)) (digitOf u)) (drop-drop 1 at s) ∙ h)
+  pub two-zero : f ≡ 0 → unset ≡ placedTwo ns f u
+  unfolding placedTwo
+  two-zero h = sym (rw (eq-eqb f 0 h))
 
-  pub number-zero : digitOf (drop at s) ≡ 0 → Meant 0
-  number-zero h = meant 0 (rw h)
+  pub two-none : digitOf u ≡ 10 → unset ≡ placedTwo ns f u
+  unfolding placedTwo
+  two-none h = sym (rw (eq-eqb (digitOf u) 10 h) (either (eqb f 0) _))
 
-  pub number-high : n ≤ digitOf (drop at s) → Meant 0
-  number-high h =
-      elim (ℕ-discrete (digitOf (drop at s)) 0) [
-        | yes z ↦ number-zero z
-        | no z ↦ meant 0 (rw (ne-eqb (digitOf (drop at s)) 0 z, le-leb n (digitOf (drop at s)) h))
+  pub two-placed : (e : ℕ) → e ≡ digitOf u → (f ≡ 0 → ⊥) → (e ≡ 10 → ⊥) → placed (f * 10 + e) ns ≡ placedTwo ns f u
+  unfolding placedTwo
+  two-placed e h n m = ap (λ (z : ℕ). placed (f * 10 + z) ns) h ∙ sym (rw (ne-eqb f 0 n, ne-eqb (digitOf u) 10 (λ z. m (h ∙ z))))
+
+-- ---- the number that digits mean
+
+module _ (ns : List ℕ) where
+  pub placed-there : (m : ℕ) → placeOf m ns < length ns → placed m ns ≡ placeOf m ns
+  unfolding placed
+  placed-there m h = rw (lt-ltb (placeOf m ns) (length ns) h)
+
+  pub placed-not : (m : ℕ) → length ns ≤ placeOf m ns → placed m ns ≡ unset
+  unfolding placed
+  placed-not m h = rw (le-ltb (placeOf m ns) (length ns) h)
+
+  -- a number that is placed is there
+  found-placed : (m : ℕ) → (placed m ns ≡ unset → ⊥) → found (placeOf m ns) ns ≡ true
+  found-placed m n =
+      elim (decLe (suc (placeOf m ns)) (length ns)) [
+        | yes h ↦ lt-ltb (placeOf m ns) (length ns) h
+        | no h ↦ absurd (n (placed-not m (omega arith)))
       ]
 
-  pub number-none : digitOf (drop at s) ≡ 10 → Meant 0
-  number-none h =
-      elim (decLe n 10) [
-        | yes k ↦ number-high (omega arith)
-        | no k ↦ meant 0 (rw (h, lt-leb n 10 (omega arith)))
+  not-found : (m : ℕ) → length ns ≤ unset → placed m ns ≡ unset → found (placeOf m ns) ns ≡ false
+  not-found m few e =
+      elim (decLe (suc (placeOf m ns)) (length ns)) [
+        | yes h ↦ absurd (omega (arith, placed-there m h))
+        | no h ↦ le-ltb (placeOf m ns) (length ns) (omega arith)
       ]
 
-  module _ (f : ℕ) (first : digitOf (drop at s) ≡ f) (some : f ≡ 0 → ⊥) (low : f < n) (digit : f ≡ 10 → ⊥) where
-    abbrev tests : ℕ → ℕ
-    tests e = pickNumber (eqb e 10) f (pickNumber (ltb (f * 10 + e) n) (f * 10 + e) f)
+  -- the first digit
+  number-first : (u : List ℕ) (f : ℕ) → f ≡ digitOf u → (f ≡ 10 → ⊥) → (guessNumber ns u ≡ twoDigits ns f (drop 1 u)) × (getD u 0 0 ≡ 48 + f) × (f ≤ 9)
+  unfolding guessNumber digitOf
+  number-first [] f e n = absurd (n e)
+  number-first (b ∷ u) f e n = go (isDigit b) refl
+    where
+      go : (t : Bool) → isDigit b ≡ t → (guessNumber ns (b ∷ u) ≡ twoDigits ns f u) × (b ≡ 48 + f) × (f ≤ 9)
+      go true t =
+          let d = digit-low b t in
+          let z : f ≡ b - 48 = e ∙ rw t in
+          (rw (t, z), omega (arith, d .0), omega (arith, d .1))
+      go false t = absurd (n (e ∙ rw t))
 
-    meant-second : (v : ℕ) → tests (digitOf (drop (at + 1) s)) ≡ v → Meant v
-    meant-second v h = meant v (rw (first, ne-eqb f 0 some, lt-leb n f low, ne-eqb f 10 digit) h)
+  pub number-none : (u : List ℕ) → digitOf u ≡ 10 → 0 ≡ guessNumber ns u
+  unfolding guessNumber digitOf
+  number-none [] e = refl
+  number-none (b ∷ u) e = go (isDigit b) refl
+    where
+      go : (t : Bool) → isDigit b ≡ t → 0 ≡ guessNumber ns (b ∷ u)
+      go true t =
+          let d = digit-low b t in
+          let z : b - 48 ≡ 10 = sym (rw t) ∙ e in
+          absurd (omega (arith, d .0, d .1))
+      go false t = sym (rw t)
 
-    pub number-one : digitOf (drop (at + 1) s) ≡ 10 → Meant f
-    number-one h = meant-second f (rw h)
+  -- the second
+  second-none : (f : ℕ) (u : List ℕ) → placedTwo ns f u ≡ unset → length ns ≤ unset → twoDigits ns f u ≡ oneDigit ns f
+  unfolding twoDigits placedTwo digitOf
+  second-none f [] e few = refl
+  second-none f (b ∷ u) e few = go (isDigit b) refl
+    where
+      go : (t : Bool) → isDigit b ≡ t → twoDigits ns f (b ∷ u) ≡ oneDigit ns f
+      go false t = rw t
+      go true t =
+          let d = digit-low b t in
+          let ten = ne-eqb (b - 48) 10 (λ z. omega (arith, d .0, d .1)) in
+          elim (ℕ-discrete f 0) [
+            | yes z ↦ rw (t, z)
+            | no z ↦ rw (t, le-leb 1 f (omega arith), not-found (f * 10 + (b - 48)) few (sym (rw (t, ne-eqb f 0 z, ten)) ∙ e))
+          ]
 
-    module _ (e : ℕ) (second : digitOf (drop (at + 1) s) ≡ e) (more : e ≡ 10 → ⊥) where
-      pub number-two : f * 10 + e < n → Meant (f * 10 + e)
-      number-two h = meant-second (f * 10 + e) (rw (second, ne-eqb e 10 more, lt-ltb (f * 10 + e) n h))
+  second-there : (f : ℕ) (u : List ℕ) → (placedTwo ns f u ≡ unset → ⊥) → placedTwo ns f u ≡ twoDigits ns f u
+  unfolding twoDigits digitOf placed
+  second-there f [] n = absurd (n (sym (two-none ns f [] refl)))
+  second-there f (b ∷ u) n = go (isDigit b) refl
+    where
+      go : (t : Bool) → isDigit b ≡ t → placedTwo ns f (b ∷ u) ≡ twoDigits ns f (b ∷ u)
+      go false t = absurd (n (sym (two-none ns f (b ∷ u) (rw t))))
+      go true t =
+          let d = digit-low b t in
+          elim (ℕ-discrete f 0) [
+            | yes z ↦ absurd (n (sym (two-zero ns f (b ∷ u) z)))
+            | no z ↦
+                let is : placed (f * 10 + (b - 48)) ns ≡ placedTwo ns f (b ∷ u) = two-placed ns f (b ∷ u) (b - 48) (sym (rw t)) z (λ q. omega (arith, d .0, d .1)) in
+                let there = found-placed (f * 10 + (b - 48)) (λ q. n (sym is ∙ q)) in
+                sym is ∙ rw (t, le-leb 1 f (omega arith), there)
+          ]
 
-      pub number-first : n ≤ f * 10 + e → Meant f
-      number-first h = meant-second f (rw (second, ne-eqb e 10 more, le-ltb (f * 10 + e) n h))
+-- ---- a number that begins with a digit, and is not the digit alone
+
+decimal-first : (n : ℕ) → (n < 10 → getD (decimal n) 0 0 ≡ 48 + n) × (10 ≤ n → getD (decimal n) 0 0 ≡ 48 + n / 10)
+unfolding decimal
+decimal-first n = (λ h. rw (lt-ltb n 10 h), λ h. rw (le-ltb n 10 h))
+
+-- the number is none of them
+abbrev Lacks : ℕ → List ℕ → Type 0
+Lacks f ns = length ns ≤ placeOf f ns
+
+lacks-on : (f n : ℕ) (ns : List ℕ) → Lacks f (n ∷ ns) → (n ≡ f → ⊥) × Lacks f ns
+unfolding placeOf
+lacks-on f n ns h =
+    elim (ℕ-discrete n f) [
+      | yes e ↦ absurd (omega (arith, (rw (eq-eqb n f e) at h)))
+      | no e ↦ (e, omega (arith, (rw (ne-eqb n f e) at h)))
+    ]
+
+starts-tens : (f : ℕ) (ns : List ℕ) → Lacks f ns → 1 ≤ f → startingWith (48 + f) (map decimal ns) ≡ placeOfTens f ns
+unfolding startingWith placeOfTens
+starts-tens f [] h o = refl
+starts-tens f (n ∷ ns) h o =
+    let l = lacks-on f n ns h in
+    let later = starts-tens f ns (l .1) o in
+    elim (ℕ-discrete (n / 10) f) [
+      | yes e ↦ rw (eq-eqb (n / 10) f e, eq-eqb (getD (decimal n) 0 0) (48 + f) (decimal-first n .1 (omega arith) ∙ ap (λ (z : ℕ). 48 + z) e))
+      | no e ↦ rw (ne-eqb (n / 10) f e, ne-eqb (getD (decimal n) 0 0) (48 + f) (other (l .0) e)) (ap suc later)
+    ]
+  where
+    other : (n ≡ f → ⊥) → (n / 10 ≡ f → ⊥) → getD (decimal n) 0 0 ≡ 48 + f → ⊥
+    other p q z =
+        elim (decLe 10 n) [
+          | yes k ↦ q (omega (arith, decimal-first n .1 k))
+          | no k ↦ p (omega (arith, decimal-first n .0 (omega arith)))
+        ]
+
+starts-zero : (ns : List ℕ) → Lacks 0 ns → startingWith 48 (map decimal ns) ≡ length (map decimal ns)
+unfolding startingWith
+starts-zero [] h = refl
+starts-zero (n ∷ ns) h =
+    let l = lacks-on 0 n ns h in
+    let later = starts-zero ns (l .1) in
+    rw (ne-eqb (getD (decimal n) 0 0) 48 (other (l .0))) (ap suc later)
+  where
+    other : (n ≡ 0 → ⊥) → getD (decimal n) 0 0 ≡ 48 → ⊥
+    other p z =
+        elim (decLe 10 n) [
+          | yes k ↦ omega (arith, decimal-first n .1 k)
+          | no k ↦ p (omega (arith, decimal-first n .0 (omega arith)))
+        ]
+
+map-length : (ns : List ℕ) → length (map decimal ns) ≡ length ns
+map-length [] = refl
+map-length (n ∷ ns) = ap suc (map-length ns)
+
+tens-starts : (ns : List ℕ) (f : ℕ) → Lacks f ns → tens ns f ≡ guessText (map decimal ns) ((48 + f) ∷ [])
+unfolding tens guessText
+tens-starts ns zero h = sym (rw (le-ltb (startingWith 48 (map decimal ns)) (length (map decimal ns)) (omega (arith, starts-zero ns h))))
+tens-starts ns (suc f) h = rw (le-leb 1 (suc f) (omega arith), starts-tens (suc f) ns h (omega arith), map-length ns)
+
+-- ---- what the code's tests give
+
+module _ (ns : List ℕ) (few : length ns ≤ unset) (u : List ℕ) (f : ℕ) (first : f ≡ digitOf u) (digit : f ≡ 10 → ⊥) where
+  pub number-two : (placedTwo ns f (drop 1 u) ≡ unset → ⊥) → placedTwo ns f (drop 1 u) ≡ guessNumber ns u
+  number-two n = second-there ns f (drop 1 u) n ∙ sym (number-first ns u f first digit .0)
+
+  module _ (two : placedTwo ns f (drop 1 u) ≡ unset) where
+    one : guessNumber ns u ≡ oneDigit ns f
+    one = number-first ns u f first digit .0 ∙ second-none ns f (drop 1 u) two few
+
+    pub number-one : (placed f ns ≡ unset → ⊥) → placed f ns ≡ guessNumber ns u
+    unfolding oneDigit placed
+    number-one n = sym (one ∙ rw (found-placed ns f n))
+
+    pub number-left : placed f ns ≡ unset → guessText (map decimal ns) (getD u 0 0 ∷ []) ≡ guessNumber ns u
+    unfolding oneDigit
+    number-left e =
+        let there = not-found ns f few e in
+        ap (λ (b : ℕ). guessText (map decimal ns) (b ∷ [])) (number-first ns u f first digit .1)
+        ∙ sym (one ∙ rw there (tens-starts ns f (ltb-false (placeOf f ns) (length ns) there)))
 
 -- ---- the tables
 
@@ -245,50 +293,137 @@ numbers-stand : numbersFrom 0 32 ≡ true
 unfolding textBytes unpack decimal
 numbers-stand = refl
 
--- a letter of the tables: its texts stand from its first place on; a number's are those of the numbers from 0 on
-pub record Letter (k : Choices) (f n : ℕ) : Type 0 where
+-- a letter of the tables: its texts stand from its first place on; those of numbers are texts of the numbers from 0 on
+pub record Letter (k : Choices) (f h n : ℕ) : Type 0 where
   pub count : count k ≡ n
-  pub within : (v : ℕ) → v < n → f + v < 46
-  pub text : (v : ℕ) → v < n → textBytes (getD packedTexts (f + v) 0) ≡ textOf k v
-  pub number : f ≡ 0 → (k ≡ below n) × (1 ≤ n)
-  pub listed : (f ≡ 0 → ⊥) → (ws : List (List ℕ)) × (k ≡ texts ws)
+  pub few : n ≤ 32
+  pub within : (v : ℕ) → v < n → f + v * 2 ^ h < 46
+  pub text : (v : ℕ) → v < n → textBytes (getD packedTexts (f + v * 2 ^ h) 0) ≡ textOf k v
+  pub number : f < 32 → k ≡ numbers (progression f (2 ^ h) n)
+  pub listed : 32 ≤ f → (ws : List (List ℕ)) × (k ≡ texts ws)
 
-text-letter : (f : ℕ) (ws : List (List ℕ)) → (f ≡ 0 → ⊥) → textsFrom f ws ≡ true → Letter (texts ws) f (length ws)
-text-letter f ws n h =
+text-letter : (f : ℕ) (ws : List (List ℕ)) → 32 ≤ f → length ws ≤ 32 → textsFrom f ws ≡ true → Letter (texts ws) f 0 (length ws)
+text-letter f ws n few h =
+    let next : (v : ℕ) → f + v ≡ f + v * 2 ^ 0 = λ v. omega arith in
     record {
       count = refl;
-      within = λ v k. texts-at f ws h v k .0;
-      text = λ v k. texts-at f ws h v k .1;
-      number = λ e. absurd (n e);
+      few = few;
+      within = λ v k. rw (← next v) (texts-at f ws h v k .0);
+      text = λ v k. rw (← next v) (texts-at f ws h v k .1);
+      number = λ e. absurd (omega arith);
       listed = λ e. (ws, refl);
     }
 
-number-letter : (n : ℕ) → 1 ≤ n → n ≤ 32 → Letter (below n) 0 n
-number-letter n o h =
+number-letter : (f h n : ℕ) → f < 32 → n ≤ 32 → ((v : ℕ) → v < n → f + v * 2 ^ h < 32) → Letter (numbers (progression f (2 ^ h) n)) f h n
+number-letter f h n first few low =
     record {
-      count = progression-length 0 n;
-      within = λ v k. omega arith;
-      text = λ v k. numbers-at 0 32 numbers-stand v (omega arith) ∙ ap decimal (sym (progression-at 0 n v k));
-      number = λ e. (refl, o);
-      listed = λ e. absurd (e refl);
+      count = progression-length f (2 ^ h) n;
+      few = few;
+      within = λ v k. omega (arith, low v k);
+      text = λ v k. (rw (zero-add (f + v * 2 ^ h)) at (numbers-at 0 32 numbers-stand (f + v * 2 ^ h) (low v k))) ∙ ap decimal (sym (progression-at f (2 ^ h) n v k));
+      number = λ e. refl;
+      listed = λ e. absurd (omega arith);
     }
 
 abbrev LetterAt : ℕ → Type 0
-LetterAt x = Letter (getD alphabet x unused) (getD firsts x 0) (getD counts x 0)
+LetterAt x = Letter (getD alphabet x unused) (firstOf x) (shiftOf x) (countOf x)
 
-pub letter-at : (x : ℕ) → x < 26 → LetterAt x
+abbrev number-below : (n : ℕ) → n ≤ 32 → Letter (below n) 0 0 n
+number-below n h = number-letter 0 0 n (omega arith) h (λ v k. omega arith)
+
+pub letter-at : (x : ℕ) → x < letterCount → LetterAt x
 unfolding textBytes unpack
 letter-at x h =
-    let one = number-letter 1 (omega arith) (omega arith) in
-    let all = number-letter 32 (omega arith) (omega arith) in
-    let eight = number-letter 8 (omega arith) (omega arith) in
+    let one = number-below 1 (omega arith) in
+    let all = number-below 32 (omega arith) in
+    let eight = number-below 8 (omega arith) in
     let e : 0 + x ≡ x = omega arith in
     subst LetterAt e
-    (each-at LetterAt 0 26
-    (one ⨾ one ⨾ one ⨾ all ⨾ one ⨾ one ⨾ one ⨾ number-letter 16 (omega arith) (omega arith) ⨾ eight
-    ⨾ number-letter 4 (omega arith) (omega arith) ⨾ number-letter 2 (omega arith) (omega arith) ⨾ eight ⨾ all ⨾ all ⨾ one
-    ⨾ text-letter 44 _ (λ e. omega arith) refl ⨾ text-letter 42 _ (λ e. omega arith) refl ⨾ text-letter 32 _ (λ e. omega arith) refl
-    ⨾ text-letter 36 _ (λ e. omega arith) refl ⨾ text-letter 38 _ (λ e. omega arith) refl ⨾ one ⨾ one ⨾ one ⨾ one ⨾ one ⨾ one ⨾ tt) x h)
+    (each-at LetterAt 0 letterCount
+    (number-letter 0 1 16 (omega arith) (omega arith) (λ v k. omega arith) ⨾ number-letter 1 1 16 (omega arith) (omega arith) (λ v k. omega arith) ⨾ one ⨾ all
+    ⨾ number-letter 0 2 8 (omega arith) (omega arith) (λ v k. omega arith) ⨾ number-letter 3 2 8 (omega arith) (omega arith) (λ v k. omega arith) ⨾ one
+    ⨾ number-below 16 (omega arith) ⨾ eight ⨾ number-below 4 (omega arith) ⨾ number-below 2 (omega arith) ⨾ eight ⨾ all ⨾ all ⨾ one
+    ⨾ text-letter 44 _ (omega arith) (omega arith) refl ⨾ text-letter 42 _ (omega arith) (omega arith) refl ⨾ text-letter 32 _ (omega arith) (omega arith) refl
+    ⨾ text-letter 36 _ (omega arith) (omega arith) refl ⨾ text-letter 38 _ (omega arith) (omega arith) refl ⨾ one ⨾ one ⨾ one ⨾ one ⨾ one ⨾ one ⨾ tt) x h)
+
+shift-small : (x : ℕ) → x < letterCount → shiftOf x < 3
+shift-small x h = ltb-true (shiftOf x) 3 (all-at (λ y. ltb (shiftOf y) 3) letterCount x refl h)
+
+pub row-good : {x row : ℕ} → RowOf x row → Row row
+row-good {x} p = rw (p .is) (record { near = shift-small x (p .low); within = letter-at x (p .low) .within })
+
+-- a value's text, by the row that the code looked up
+module _ {x row : ℕ} (v : ℕ) (p : RowOf x row) where
+  pub row-count : count (getD alphabet x unused) ≡ row / 65536 % 256
+  row-count = rw (p .is) (letter-at x (p .low) .count)
+
+  pub text-stands : {packed : ℕ} → v < row / 65536 % 256 → packed ≡ getD packedTexts (row % 256 + v * 2 ^ (row / 256 % 256)) 0 → textBytes packed ≡ textOf (getD alphabet x unused) v
+  text-stands h e = ap textBytes (rw (p .is) at e) ∙ letter-at x (p .low) .text v (rw (p .is) at h)
+
+-- ---- the place of a number among those of a letter
+
+steps-off : (h d v : ℕ) → h < 3 → d < 256 → (d / 2 ^ h * 2 ^ h % 256 ≡ d → ⊥) → d ≡ v * 2 ^ h → ⊥
+steps-off zero d v k l n e = n (omega arith)
+steps-off (suc zero) d v k l n e = n (omega arith)
+steps-off (suc (suc zero)) d v k l n e = n (omega arith)
+steps-off (suc (suc (suc h))) d v k l n e = omega arith
+
+steps-past : (h d v n : ℕ) → h < 3 → n ≤ d / 2 ^ h → v < n → d ≡ v * 2 ^ h → ⊥
+steps-past zero d v n k l o e = omega arith
+steps-past (suc zero) d v n k l o e = omega arith
+steps-past (suc (suc zero)) d v n k l o e = omega arith
+steps-past (suc (suc (suc h))) d v n k l o e = omega arith
+
+steps-on : (h d : ℕ) → h < 3 → d < 256 → d / 2 ^ h * 2 ^ h % 256 ≡ d → d / 2 ^ h * 2 ^ h ≡ d
+steps-on zero d k l e = omega arith
+steps-on (suc zero) d k l e = omega arith
+steps-on (suc (suc zero)) d k l e = omega arith
+steps-on (suc (suc (suc h))) d k l e = absurd (omega arith)
+
+-- as the code takes it: how far the number is behind the first, in steps
+module _ (x m : ℕ) (low : x < letterCount) (number : firstOf x < 32) where
+  abbrev first : ℕ
+  first = firstOf x
+
+  abbrev step : ℕ
+  step = 2 ^ shiftOf x
+
+  abbrev pub Placed : ℕ → Type 0
+  Placed r = r ≡ placed m (numbersOf (getD alphabet x unused))
+
+  the-numbers : numbersOf (getD alphabet x unused) ≡ progression first step (countOf x)
+  the-numbers = ap numbersOf (letter-at x low .number number)
+
+  each-once : once (progression first step (countOf x)) ≡ true
+  each-once = and-true (once (progression first step (countOf x))) _ (rw (letter-at x low .number number) at (sound-letter x)) .0
+
+  not-there : ((v : ℕ) → v < countOf x → m ≡ first + v * step → ⊥) → Placed unset
+  not-there n =
+      let ns : List ℕ = progression first step (countOf x) in
+      let many = progression-length first step (countOf x) in
+      rw the-numbers
+      (elim (decLe (suc (placeOf m ns)) (length ns)) [
+        | yes h ↦ absurd (n (placeOf m ns) (omega arith) (sym (place-has m ns h) ∙ progression-at first step (countOf x) (placeOf m ns) (omega arith)))
+        | no h ↦ sym (placed-not ns m (omega arith))
+      ])
+
+  pub place-low : m < first → Placed unset
+  place-low h = not-there (λ v k e. omega arith)
+
+  pub place-off : first ≤ m → m < 256 → ((m - first) / step * step % 256 ≡ m - first → ⊥) → Placed unset
+  place-off h k n = not-there (λ v l e. steps-off (shiftOf x) (m - first) v (shift-small x low) (omega arith) n (omega arith))
+
+  pub place-past : first ≤ m → countOf x ≤ (m - first) / step → Placed unset
+  place-past h k = not-there (λ v l e. steps-past (shiftOf x) (m - first) v (countOf x) (shift-small x low) k l (omega arith))
+
+  pub place-at : first ≤ m → m < 256 → (m - first) / step * step % 256 ≡ m - first → (m - first) / step < countOf x → Placed ((m - first) / step)
+  place-at h k e l =
+      let v : ℕ = (m - first) / step in
+      let ns : List ℕ = progression first step (countOf x) in
+      let many = progression-length first step (countOf x) in
+      let is : getD ns v 0 ≡ m = progression-at first step (countOf x) v l ∙ omega (arith, steps-on (shiftOf x) (m - first) (shift-small x low) (omega arith) e) in
+      let at : placeOf m ns ≡ v = rw is at (place-is ns each-once v (omega arith)) in
+      rw the-numbers (sym (placed-there ns m (omega arith) ∙ at))
 
 -- ---- texts by their first byte
 
@@ -296,13 +431,6 @@ first-byte : (n p : ℕ) → 1 ≤ length (unpack n p) → getD (unpack n p) 0 0
 unfolding unpack
 first-byte zero p h = absurd (omega arith)
 first-byte (suc n) p h = refl
-
-pub head-is : (k : Choices) (f n v : ℕ) → Letter k f n → 1 ≤ length (textOf k v) → v < n → getD (textOf k v) 0 0 ≡ getD packedTexts (f + v) 0 % 256
-unfolding textBytes
-head-is k f n v l o h =
-    let e = l .text v h in
-    let p : ℕ = getD packedTexts (f + v) 0 in
-    ap (λ (w : List ℕ). getD w 0 0) (sym e) ∙ first-byte (p / 16777216) p (rw e o)
 
 -- no text before this one begins with the byte
 pub record Seeking (ws : List (List ℕ)) (b i : ℕ) : Type 0 where
@@ -395,49 +523,78 @@ text-length text = unpack-length (text / 16777216) text
 
 -- ---- the loop over a letter's texts
 
-pub record Looking (x b v : ℕ) : Type 0 where
-  pub texts : (ws : List (List ℕ)) → getD alphabet x unused ≡ texts ws → Seeking ws b v
+text-there : (ns : List ℕ) (v : ℕ) → v < length ns → getD (map decimal ns) v [] ≡ decimal (getD ns v 0)
+text-there [] v h = absurd (omega arith)
+text-there (n ∷ ns) zero h = refl
+text-there (n ∷ ns) (suc v) h = text-there ns v (omega arith)
 
-module _ (x b v : ℕ) (low : x < 26) (some : getD firsts x 0 ≡ 0 → ⊥) where
-  the-texts : (ws : List (List ℕ)) × (getD alphabet x unused ≡ texts ws)
-  the-texts = letter-at x low .listed some
+texts-length : (k : Choices) → length (textsOf k) ≡ count k
+texts-length (numbers ns) = map-length ns
+texts-length (texts ws) = refl
 
-  length-texts : (ws : List (List ℕ)) → getD alphabet x unused ≡ texts ws → length ws ≡ getD counts x 0
-  length-texts ws e = sym (ap count e) ∙ letter-at x low .count
+one-long : (n : ℕ) → 1 ≤ length (decimal n)
+unfolding decimal
+one-long n =
+    elim (decLe 10 n) [
+      | yes h ↦ rw (le-ltb n 10 h) (omega arith)
+      | no h ↦ rw (lt-ltb n 10 (omega arith)) (omega arith)
+    ]
 
-  head-text : (ws : List (List ℕ)) → getD alphabet x unused ≡ texts ws → v < getD counts x 0 → getD (getD ws v []) 0 0 ≡ getD packedTexts (getD firsts x 0 + v) 0 % 256
-  head-text ws e h =
-      let k : textOf (getD alphabet x unused) v ≡ getD ws v [] = ap (λ (z : Choices). textOf z v) e in
-      let long : 1 ≤ length (getD ws v []) = text-long v ws (sound-texts ws (rw e at (sound-letter x))) (omega (arith, length-texts ws e)) in
-      ap (λ (w : List ℕ). getD w 0 0) (sym k) ∙ head-is (getD alphabet x unused) (getD firsts x 0) (getD counts x 0) v (letter-at x low) (rw k long) h
+-- a value's text, which has a first byte
+text-is : (k : Choices) (v : ℕ) → soundChoices k ≡ true → v < count k → (getD (textsOf k) v [] ≡ textOf k v) × (1 ≤ length (textOf k v))
+text-is (numbers ns) v s h = (text-there ns v h, one-long (getD ns v 0))
+text-is (texts ws) v s h = (refl, text-long v ws (sound-texts ws s) h)
 
-  pub looking-on : Looking x b v → v < getD counts x 0 → (getD packedTexts (getD firsts x 0 + v) 0 % 256 ≡ b → ⊥) → Looking x b (v + 1)
-  looking-on l h n = record { texts = λ ws e. seeking-on ws b v (l .texts ws e) (omega (arith, length-texts ws e)) (λ p. n (sym (head-text ws e h) ∙ p)) }
+module _ (x b v : ℕ) (low : x < letterCount) where
+  abbrev pub Looking : Type 0
+  Looking = Seeking (textsOf (getD alphabet x unused)) b v
 
-  pub looking-found : Looking x b v → v < getD counts x 0 → getD packedTexts (getD firsts x 0 + v) 0 % 256 ≡ b → v ≡ guess (getD alphabet x unused) (b ∷ [])
-  looking-found l h p =
-      let ws = the-texts .0 in
-      let e = the-texts .1 in
-      seeking-found ws b v [] (l .texts ws e) (omega (arith, length-texts ws e)) (head-text ws e h ∙ p) ∙ ap (λ (z : Choices). guess z (b ∷ [])) (sym e)
+  texts-many : length (textsOf (getD alphabet x unused)) ≡ countOf x
+  texts-many = texts-length (getD alphabet x unused) ∙ letter-at x low .count
 
-  pub looking-ends : Looking x b v → getD counts x 0 ≤ v → 0 ≡ guess (getD alphabet x unused) (b ∷ [])
-  looking-ends l h =
-      let ws = the-texts .0 in
-      let e = the-texts .1 in
-      seeking-ends ws b v [] (l .texts ws e) (omega (arith, length-texts ws e)) ∙ ap (λ (z : Choices). guess z (b ∷ [])) (sym e)
+  -- the first byte of the text that stands for the value
+  head-is : (p : ℕ) → textBytes p ≡ textOf (getD alphabet x unused) v → v < countOf x → getD (getD (textsOf (getD alphabet x unused)) v []) 0 0 ≡ p % 256
+  unfolding textBytes
+  head-is p e h =
+      let t = text-is (getD alphabet x unused) v (sound-letter x) (omega (arith, letter-at x low .count)) in
+      ap (λ (w : List ℕ). getD w 0 0) (t .0 ∙ sym e) ∙ first-byte (p / 16777216) p (rw e (t .1))
 
-  -- the other bytes do not matter to a text
-  pub guess-text-first : (u : List ℕ) → guess (getD alphabet x unused) (b ∷ []) ≡ guess (getD alphabet x unused) (b ∷ u)
-  unfolding guessText
-  guess-text-first u =
-      let e = the-texts .1 in
-      ap (λ (z : Choices). guess z (b ∷ [])) e ∙ ap (λ (z : Choices). guess z (b ∷ u)) (sym e)
+  module _ (l : Looking) (p : ℕ) (is : textBytes p ≡ textOf (getD alphabet x unused) v) (h : v < countOf x) where
+    pub looking-on : (p % 256 ≡ b → ⊥) → Seeking (textsOf (getD alphabet x unused)) b (v + 1)
+    looking-on n = seeking-on (textsOf (getD alphabet x unused)) b v l (omega (arith, texts-many)) (λ q. n (sym (head-is p is h) ∙ q))
 
-pub looking-starts : (x b : ℕ) → Looking x b 0
-looking-starts x b = record { texts = λ ws e. seeking-starts ws b }
+    pub looking-found : p % 256 ≡ b → v ≡ guessText (textsOf (getD alphabet x unused)) (b ∷ [])
+    looking-found e = seeking-found (textsOf (getD alphabet x unused)) b v [] l (omega (arith, texts-many)) (head-is p is h ∙ e)
+
+  pub looking-ends : Looking → countOf x ≤ v → 0 ≡ guessText (textsOf (getD alphabet x unused)) (b ∷ [])
+  looking-ends l h = seeking-ends (textsOf (getD alphabet x unused)) b v [] l (omega (arith, texts-many))
+
+pub looking-starts : (x b : ℕ) → Seeking (textsOf (getD alphabet x unused)) b 0
+looking-starts x b = seeking-starts (textsOf (getD alphabet x unused)) b
+
+-- the other bytes do not matter to a text
+pub guess-text-first : (k : Choices) (b : ℕ) (u : List ℕ) → (ws : List (List ℕ)) × (k ≡ texts ws) → guessText (textsOf k) (b ∷ []) ≡ guess k (b ∷ u)
+unfolding guessText
+guess-text-first k b u p = ap (λ (z : Choices). guessText (textsOf z) (b ∷ [])) (p .1) ∙ ap (λ (z : Choices). guess z (b ∷ u)) (sym (p .1))
 
 -- where nothing is left every guess is the first
 pub guess-none : (k : Choices) → 0 ≡ guess k []
 unfolding guessNumber guessText
 guess-none (numbers ns) = refl
 guess-none (texts ws) = refl
+
+-- a letter of numbers
+pub guess-is : (x : ℕ) (u : List ℕ) → x < letterCount → firstOf x < 32 → guessNumber (numbersOf (getD alphabet x unused)) u ≡ guess (getD alphabet x unused) u
+guess-is x u low number =
+    let e = letter-at x low .number number in
+    ap (λ (k : Choices). guessNumber (numbersOf k) u) e ∙ ap (λ (k : Choices). guess k u) (sym e)
+
+pub numbers-few : (x : ℕ) → x < letterCount → firstOf x < 32 → length (numbersOf (getD alphabet x unused)) ≤ unset
+numbers-few x low number =
+    let l = letter-at x low in
+    omega (arith, ap (λ (k : Choices). length (numbersOf k)) (l .number number), progression-length (firstOf x) (2 ^ shiftOf x) (countOf x), l .few)
+
+pub numbers-texts : (x : ℕ) → x < letterCount → firstOf x < 32 → textsOf (getD alphabet x unused) ≡ map decimal (numbersOf (getD alphabet x unused))
+numbers-texts x low number =
+    let e = letter-at x low .number number in
+    ap textsOf e ∙ ap (λ (k : Choices). map decimal (numbersOf k)) (sym e)

@@ -1,12 +1,12 @@
 -- Each pattern: what its values make can be written and has that line; and the values of an operation make it again. Assumes nothing.
-use Prim.Native.Nat.{ℕ, zero, suc, _+_, _≤_, _<_}
+use Prim.Native.Nat.{ℕ, zero, suc, _+_, _*_, _/_, _%_, _≤_, _<_}
 use mathlib.Core.Path.{_≡_, refl, sym, ap, _∙_, subst}
 use mathlib.Core.Bool.{Bool, true, false, _&&_}
 use mathlib.Core.List.{List, [], _∷_, _++_}
 use mathlib.Core.Logic.{_⊎_, inl, inr, ⊎-elim}
 use native.Mathlib.Omega.{arith}
 use native.Mathlib.Decide.{ℕ-discrete}
-use borrow.Author.Tests.{eq-eqb, ne-eqb, le-leb, leb-true}
+use borrow.Author.Tests.{eq-eqb, ne-eqb, eqb-true, le-leb, leb-true}
 use lib.Dec.{leb}
 use lib.ListN.{length, getD}
 use Rattle.isa.specs.declared.types.Size.{Size}
@@ -16,14 +16,17 @@ use Rattle.isa.specs.declared.types.Add.{Add}
 use Rattle.isa.specs.declared.types.Mul.{Mul}
 use Rattle.isa.specs.declared.types.MulIndexed.{MulIndexed}
 use Rattle.isa.specs.declared.types.ByElement.{ByElement}
+use Rattle.isa.specs.declared.types.Group.{Group}
+use Rattle.isa.specs.declared.types.MulGroup.{MulGroup}
 use Rattle.isa.specs.declared.types.Op.{Op}
+use Rattle.isa.specs.Register.{groupCount}
 use Rattle.isa.specs.Field.{Row}
-use Rattle.isa.specs.Table.{cadd, sqcadd, cmla, sqrdcmlah, cmlaH, cmlaS, sqrdcmlahH, sqrdcmlahS, sqrdmlahVector, sqrdmlahScalar, sqrdmlshVector, sqrdmlshScalar}
+use Rattle.isa.specs.Table.{cadd, sqcadd, cmla, sqrdcmlah, cmlaH, cmlaS, sqrdcmlahH, sqrdcmlahS, sqrdmlahVector, sqrdmlahScalar, sqrdmlshVector, sqrdmlshScalar, sqdmulhTwo, sqdmulhFour}
 use Rattle.isa.specs.Decode.{sizeOf, rotationOf, addRotationOf, vectorOf}
-use Rattle.isa.specs.Encode.{WriteChecks, writeChecks, sizeBits, rotationBits, addRotation, addRotationBits, halfOrSingle, bySize, addChecks, mulChecks, indexedChecks, elementChecks}
+use Rattle.isa.specs.Encode.{WriteChecks, writeChecks, sizeBits, rotationBits, addRotation, addRotationBits, halfOrSingle, bySize, addChecks, mulChecks, indexedChecks, elementChecks, groupChecks}
 use Rattle.grammar.specs.Template.{Item, byte, var, Variables, textOf, count, fill, Filled, bind}
 use Rattle.grammar.specs.Follow.{unset}
-use Rattle.grammar.specs.Grammar.{variables, templates, makers, letterD, letterH, letterI, letterJ, letterK, letterL, letterM, letterN, letterP, letterQ, letterR, letterS, letterT, addFrom, mulFrom, indexedFrom, elementFrom, patternOf, valuesOf, lineOf, addValues, mulValues, indexedValues, elementValues, noValues, formBits, byForm, vectorBy}
+use Rattle.grammar.specs.Grammar.{variables, templates, makers, patternCount, slotOf, letterA, letterD, letterE, letterH, letterI, letterJ, letterK, letterL, letterM, letterN, letterP, letterQ, letterR, letterS, letterT, addFrom, mulFrom, indexedFrom, elementFrom, groupFrom, patternOf, valuesOf, lineOf, addValues, mulValues, indexedValues, elementValues, groupValues, noValues, formBits, byForm, vectorBy}
 use Rattle.grammar.specs.Line.{Writable}
 use Rattle.grammar.specs.Read.{makeAt}
 use Rattle.grammar.proofs.Guess.{and-true, both-true, differ}
@@ -34,12 +37,12 @@ infixr 5 _⨾_
 abbrev pub _⨾_ : {A B : Type 0} → A → B → A × B
 _⨾_ a b = (a, b)
 
--- ---- values that are the same at the letters of a template
+-- ---- values that are the same at the slots of a template
 
 abbrev Same : List Item → (ℕ → ℕ) → (ℕ → ℕ) → Type 0
 Same [] e f = Unit {0}
 Same (byte b ∷ t) e f = Same t e f
-Same (var x ∷ t) e f = (e x ≡ f x) × Same t e f
+Same (var x ∷ t) e f = (e (slotOf x) ≡ f (slotOf x)) × Same t e f
 
 fill-same : (t : List Item) (e f : ℕ → ℕ) → Same t e f → fill variables t e ≡ fill variables t f
 unfolding variables
@@ -147,10 +150,14 @@ pub record Makes (t : List Item) (p : ℕ) (op : Op) (r : ℕ → ℕ) : Type 0 
   pub pattern : patternOf op ≡ p
   pub text : fill variables t (valuesOf op) ≡ fill variables t r
 
-pub record Remakes (op : Op) : Type 0 where
-  pub good : Good most (valuesOf op)
-  pub within : patternOf op < 16
-  pub again : (r : ℕ → ℕ) → Agrees r (valuesOf op) → Filled variables (getD templates (patternOf op) []) r → makeAt (patternOf op) r ≡ op
+-- by a pattern and its values
+pub record RemakesBy (op : Op) (p : ℕ) (v : ℕ → ℕ) : Type 0 where
+  pub good : Good most v
+  pub within : p < patternCount
+  pub again : (r : ℕ → ℕ) → Agrees r v → Filled variables (getD templates p []) r → makeAt p r ≡ op
+
+abbrev pub Remakes : Op → Type 0
+Remakes op = RemakesBy op (patternOf op) (valuesOf op)
 
 -- ---- CADD, SQCADD
 
@@ -163,6 +170,7 @@ add-makes t p op row r e f g d z m s same =
         size = ap (λ (k : WriteChecks). k .size) e;
         rotation = ap (λ (k : WriteChecks). k .rotation) e ∙ add-rotation-is (r letterS);
         registers = ap (λ (k : WriteChecks). k .registers) e ∙ two-in (r letterM) (r letterD) 31 31 (omega arith) (omega arith);
+        start = ap (λ (k : WriteChecks). k .start) e;
         index = ap (λ (k : WriteChecks). k .index) e;
       };
       pattern = f;
@@ -199,6 +207,7 @@ mul-makes t p op row r e f g d z n m s same =
         size = ap (λ (k : WriteChecks). k .size) e;
         rotation = ap (λ (k : WriteChecks). k .rotation) e;
         registers = ap (λ (k : WriteChecks). k .registers) e ∙ three-in (r letterM) 31 (r letterN) (r letterD) (omega arith) (omega arith) (omega arith);
+        start = ap (λ (k : WriteChecks). k .start) e;
         index = ap (λ (k : WriteChecks). k .index) e;
       };
       pattern = f;
@@ -234,6 +243,7 @@ indexed-makes t p op h s z m i r e f g k d n l j same =
         size = ap (λ (k : WriteChecks). k .size) e ∙ k;
         rotation = ap (λ (k : WriteChecks). k .rotation) e;
         registers = ap (λ (k : WriteChecks). k .registers) e ∙ three-in (r m) (bySize 7 15 z) (r letterN) (r letterD) l (omega arith) (omega arith);
+        start = ap (λ (k : WriteChecks). k .start) e;
         index = ap (λ (k : WriteChecks). k .index) e ∙ le-leb (r i) (bySize 3 1 z) j;
       };
       pattern = f;
@@ -279,6 +289,7 @@ element-makes t p op s v z f q m i r e o g k d n l j same =
         size = ap (λ (k : WriteChecks). k .size) e ∙ k;
         rotation = ap (λ (k : WriteChecks). k .rotation) e;
         registers = ap (λ (k : WriteChecks). k .registers) e ∙ three-in (r m) (bySize 15 31 z) (r letterN) (r letterD) l (omega arith) (omega arith);
+        start = ap (λ (k : WriteChecks). k .start) e;
         index = ap (λ (k : WriteChecks). k .index) e ∙ le-leb (r i) (bySize 7 3 z) j;
       };
       pattern = o;
@@ -317,6 +328,53 @@ element-again q m i a en em ei r g d n l j f form =
     let rn : r letterN ≡ a .rn = is-set r (elementValues q m i a) letterN g (omega arith) ∙ en in
     let rd : r letterD ≡ a .rd = is-set r (elementValues q m i a) letterD g (omega arith) in
     λ x. record { size = a .size; rm = rm x; index = index x; rn = rn x; rd = rd x; form = form x }
+
+-- ---- SQDMULH: a group, and its letter
+
+group-makes : (t : List Item) (p : ℕ) (g : Group) (x : ℕ) (r : ℕ → ℕ) → writeChecks (Op.Sqdmulh (groupFrom g x r)) ≡ groupChecks sqdmulhTwo sqdmulhFour (groupFrom g x r) → patternOf (Op.Sqdmulh (groupFrom g x r)) ≡ p
+    → valuesOf (Op.Sqdmulh (groupFrom g x r)) ≡ groupValues x (groupFrom g x r) → r letterH < 16 → r x * groupCount g ≤ 31 → r x * groupCount g % groupCount g ≡ 0
+    → Same t (groupValues x (groupFrom g x r)) r → Makes t p (Op.Sqdmulh (groupFrom g x r)) r
+group-makes t p g x r e f v m d z same =
+    record {
+      writable = record {
+        size = ap (λ (k : WriteChecks). k .size) e;
+        rotation = ap (λ (k : WriteChecks). k .rotation) e;
+        registers = ap (λ (k : WriteChecks). k .registers) e ∙ two-in (r letterH) (r x * groupCount g) 15 31 (omega arith) d;
+        start = ap (λ (k : WriteChecks). k .start) e ∙ eq-eqb (r x * groupCount g % groupCount g) 0 z;
+        index = ap (λ (k : WriteChecks). k .index) e;
+      };
+      pattern = f;
+      text = ap (fill variables t) v ∙ fill-same t (groupValues x (groupFrom g x r)) r same;
+    }
+
+pub record GroupIn (a : MulGroup) : Type 0 where
+  pub second : a .zm ≤ 15
+  pub first : a .zdn ≤ 31
+  pub start : a .zdn % groupCount (a .group) ≡ 0
+
+pub group-in : (a : MulGroup) → writeChecks (Op.Sqdmulh a) ≡ groupChecks sqdmulhTwo sqdmulhFour a → Writable (Op.Sqdmulh a) → GroupIn a
+group-in a e w =
+    let p = and-true (leb (a .zm) 15) (leb (a .zdn) 31) (sym (ap (λ (k : WriteChecks). k .registers) e) ∙ w .registers) in
+    record {
+      second = leb-true (a .zm) 15 (p .0);
+      first = leb-true (a .zdn) 31 (p .1);
+      start = eqb-true (a .zdn % groupCount (a .group)) 0 (sym (ap (λ (k : WriteChecks). k .start) e) ∙ w .start);
+    }
+
+pub group-good : (x : ℕ) (a : MulGroup) → GroupIn a → a .zdn / groupCount (a .group) < most x → Good most (groupValues x a)
+group-good x a p l =
+    good-bind x (a .zdn / groupCount (a .group)) _ l
+    (good-bind letterT (sizeBits (a .size)) _ (size-low (a .size))
+    (good-bind letterH (a .zm) noValues (omega (arith, p .second)) good-none))
+
+pub group-again : (x : ℕ) (a : MulGroup) → groupValues x a letterT ≡ sizeBits (a .size) → groupValues x a letterH ≡ a .zm → a .zdn / groupCount (a .group) * groupCount (a .group) ≡ a .zdn
+    → (r : ℕ → ℕ) → Agrees r (groupValues x a) → r x < 32 → r letterT < 4 → r letterH < 16 → groupFrom (a .group) x r ≡ a
+group-again x a et eh whole r g d t m =
+    let size : sizeOf (r letterT) ≡ a .size = ap sizeOf (is-set r (groupValues x a) letterT g (omega arith) ∙ et) ∙ size-again (a .size) in
+    let zm : r letterH ≡ a .zm = is-set r (groupValues x a) letterH g (omega arith) ∙ eh in
+    let place : groupValues x a x ≡ a .zdn / groupCount (a .group) = rw (eq-eqb x x refl) in
+    let zdn : r x * groupCount (a .group) ≡ a .zdn = ap (λ (v : ℕ). v * groupCount (a .group)) (is-set r (groupValues x a) x g (omega arith) ∙ place) ∙ whole in
+    λ i. record { size = size i; zm = zm i; zdn = zdn i; group = a .group }
 
 -- ---- the patterns
 
@@ -409,5 +467,19 @@ pattern-15 r f =
     let b = vector-back (r letterP) (f .1 .0) in
     element-makes (getD templates 15 []) 15 (makeAt 15 r) sqrdmlshScalar sqrdmlshVector Size.S (vectorOf (r letterP)) letterP letterM letterJ r refl (by-vector _ 15 (r letterP)) refl refl (f .0) (f .1 .1 .0) (omega (arith, f .1 .1 .1 .1 .0)) (omega (arith, f .1 .1 .1 .1 .1 .0)) (refl ⨾ b ⨾ refl ⨾ b ⨾ refl ⨾ refl ⨾ tt)
 
-pub pattern-makes : (p : ℕ) → p < 16 → RowMakes p
-pattern-makes p h = subst RowMakes (omega arith) (each-at RowMakes 0 16 (pattern-0 ⨾ pattern-1 ⨾ pattern-2 ⨾ pattern-3 ⨾ pattern-4 ⨾ pattern-5 ⨾ pattern-6 ⨾ pattern-7 ⨾ pattern-8 ⨾ pattern-9 ⨾ pattern-10 ⨾ pattern-11 ⨾ pattern-12 ⨾ pattern-13 ⨾ pattern-14 ⨾ pattern-15 ⨾ tt) p h)
+pattern-16 : RowMakes 16
+unfolding writeChecks patternOf valuesOf variables
+pattern-16 r f =
+    let z = size-back (r letterT) (f .1 .0) in
+    let d : r letterA * 2 / 2 ≡ r letterA = omega arith in
+    group-makes (getD templates 16 []) 16 Group.Two letterA r refl refl refl (f .1 .1 .1 .1 .1 .1 .1 .1 .0) (omega (arith, f .0)) (omega arith) (d ⨾ z ⨾ d ⨾ z ⨾ d ⨾ z ⨾ d ⨾ z ⨾ refl ⨾ z ⨾ tt)
+
+pattern-17 : RowMakes 17
+unfolding writeChecks patternOf valuesOf variables
+pattern-17 r f =
+    let z = size-back (r letterT) (f .1 .0) in
+    let d : r letterE * 4 / 4 ≡ r letterE = omega arith in
+    group-makes (getD templates 17 []) 17 Group.Four letterE r refl refl refl (f .1 .1 .1 .1 .1 .1 .1 .1 .0) (omega (arith, f .0)) (omega arith) (d ⨾ z ⨾ d ⨾ z ⨾ d ⨾ z ⨾ d ⨾ z ⨾ refl ⨾ z ⨾ tt)
+
+pub pattern-makes : (p : ℕ) → p < patternCount → RowMakes p
+pattern-makes p h = subst RowMakes (omega arith) (each-at RowMakes 0 patternCount (pattern-0 ⨾ pattern-1 ⨾ pattern-2 ⨾ pattern-3 ⨾ pattern-4 ⨾ pattern-5 ⨾ pattern-6 ⨾ pattern-7 ⨾ pattern-8 ⨾ pattern-9 ⨾ pattern-10 ⨾ pattern-11 ⨾ pattern-12 ⨾ pattern-13 ⨾ pattern-14 ⨾ pattern-15 ⨾ pattern-16 ⨾ pattern-17 ⨾ tt) p h)

@@ -16,7 +16,7 @@ use Rattle.grammar.specs.Line.{Writable}
 use Rattle.grammar.specs.Read.{readOf}
 use Rattle.grammar.specs.Write.{lineAnswer}
 use Rattle.grammar.specs.Number.{lineReadNumber, lineReadOperation, lineReadLength, lineWrittenNumber, lineWrittenLength}
-use Rattle.grammar.specs.Returned.{LineReads, operation, not-line, LineReadsAs, LineWrites, done, no-size, no-rotation, register-limit, index-limit, no-room, LineWritesAs}
+use Rattle.grammar.specs.Returned.{LineReads, operation, not-line, LineReadsAs, LineWrites, done, no-size, no-rotation, register-limit, group-start, index-limit, no-room, LineWritesAs}
 use Rattle.grammar.proofs.Lines.{line-exact, longest}
 
 -- ---- reading
@@ -39,27 +39,29 @@ module _ (s : List ℕ) where
 -- ---- writing
 
 module _ (op : Op) (room : ℕ) where
-  write-returned : (s r g i b : Bool) → writeChecks op .size ≡ s → writeChecks op .rotation ≡ r → writeChecks op .registers ≡ g → writeChecks op .index ≡ i → leb (length (lineOf op)) room ≡ b →
+  write-returned : (s r g t i b : Bool) → writeChecks op .size ≡ s → writeChecks op .rotation ≡ r → writeChecks op .registers ≡ g → writeChecks op .start ≡ t → writeChecks op .index ≡ i → leb (length (lineOf op)) room ≡ b →
       LineWrites op room (lineWrittenNumber (lineAnswer op room)) (lineWrittenLength (lineAnswer op room))
   unfolding lineAnswer encodeOf answer lineWrittenNumber lineWrittenLength
-  write-returned false r g i b es er eg ei eb = rw es (no-size es)
-  write-returned true false g i b es er eg ei eb = rw (es, er) (no-rotation es er)
-  write-returned true true false i b es er eg ei eb = rw (es, er, eg) (register-limit es er eg)
-  write-returned true true true false b es er eg ei eb = rw (es, er, eg, ei) (index-limit es er eg ei)
-  write-returned true true true true true es er eg ei eb =
-      rw (es, er, eg, ei, eb) (done (record { size = es; rotation = er; registers = eg; index = ei }) (leb-true (length (lineOf op)) room eb))
-  write-returned true true true true false es er eg ei eb =
-      rw (es, er, eg, ei, eb) (no-room (record { size = es; rotation = er; registers = eg; index = ei }) (leb-false (length (lineOf op)) room eb))
+  write-returned false r g t i b es er eg et ei eb = rw es (no-size es)
+  write-returned true false g t i b es er eg et ei eb = rw (es, er) (no-rotation es er)
+  write-returned true true false t i b es er eg et ei eb = rw (es, er, eg) (register-limit es er eg)
+  write-returned true true true false i b es er eg et ei eb = rw (es, er, eg, et) (group-start es er eg et)
+  write-returned true true true true false b es er eg et ei eb = rw (es, er, eg, et, ei) (index-limit es er eg et ei)
+  write-returned true true true true true true es er eg et ei eb =
+      rw (es, er, eg, et, ei, eb) (done (record { size = es; rotation = er; registers = eg; start = et; index = ei }) (leb-true (length (lineOf op)) room eb))
+  write-returned true true true true true false es er eg et ei eb =
+      rw (es, er, eg, et, ei, eb) (no-room (record { size = es; rotation = er; registers = eg; start = et; index = ei }) (leb-false (length (lineOf op)) room eb))
 
   write-answered : {n k : ℕ} → LineWrites op room n k → LineWritesAs op room n k
   unfolding lineAnswer encodeOf answer lineWrittenNumber lineWrittenLength
-  write-answered (done p l) = rw (p .size, p .rotation, p .registers, p .index, le-leb (length (lineOf op)) room l) (refl, refl)
+  write-answered (done p l) = rw (p .size, p .rotation, p .registers, p .start, p .index, le-leb (length (lineOf op)) room l) (refl, refl)
   write-answered (no-size es) = rw es (refl, refl)
   write-answered (no-rotation es er) = rw (es, er) (refl, refl)
   write-answered (register-limit es er eg) = rw (es, er, eg) (refl, refl)
-  write-answered (index-limit es er eg ei) = rw (es, er, eg, ei) (refl, refl)
-  write-answered (no-room p l) = rw (p .size, p .rotation, p .registers, p .index, lt-leb (length (lineOf op)) room l) (refl, refl)
+  write-answered (group-start es er eg et) = rw (es, er, eg, et) (refl, refl)
+  write-answered (index-limit es er eg et ei) = rw (es, er, eg, et, ei) (refl, refl)
+  write-answered (no-room p l) = rw (p .size, p .rotation, p .registers, p .start, p .index, lt-leb (length (lineOf op)) room l) (refl, refl)
 
   pub write-exact : (n k : ℕ) → LineWritesAs op room n k ↔ LineWrites op room n k
   write-exact n k =
-      ((λ e. subst (λ x. LineWrites op room x k) (e .0) (subst (LineWrites op room _) (e .1) (write-returned _ _ _ _ _ refl refl refl refl refl))), write-answered)
+      ((λ e. subst (λ x. LineWrites op room x k) (e .0) (subst (LineWrites op room _) (e .1) (write-returned _ _ _ _ _ _ refl refl refl refl refl refl))), write-answered)

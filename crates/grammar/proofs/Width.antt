@@ -1,4 +1,4 @@
--- No line is longer than 38 bytes, by a sum over each template that is computed. Assumes nothing.
+-- No line is longer than the longest that is stated, by a sum over each template that is computed. Assumes nothing.
 use Prim.Native.Nat.{ℕ, zero, suc, _+_, _≤_, max}
 use mathlib.Core.Path.{_≡_, refl, sym, ap, _∙_, subst}
 use mathlib.Core.Bool.{Bool, true, false, _&&_}
@@ -9,7 +9,7 @@ use lib.Dec.{leb}
 use lib.ListN.{length, getD, length-append}
 use Rattle.isa.specs.declared.types.Op.{Op}
 use Rattle.grammar.specs.Template.{Item, byte, var, Choices, numbers, texts, Variables, decimal, textOf, fill}
-use Rattle.grammar.specs.Grammar.{alphabet, unused, variables, templates, patternOf, valuesOf, lineOf}
+use Rattle.grammar.specs.Grammar.{alphabet, unused, variables, templates, patternOf, valuesOf, lineMax, lineOf}
 use Rattle.grammar.proofs.Guess.{and-true}
 
 abbrev longestText : List (List ℕ) → ℕ
@@ -74,10 +74,10 @@ within-at vs n [] p e h = omega arith
 within-at vs n (t ∷ ts) zero e h = omega (arith, fill-width vs t e, leb-true (widthOf vs t) n (and-true (leb (widthOf vs t) n) (within vs n ts) h .0))
 within-at vs n (t ∷ ts) (suc p) e h = within-at vs n ts p e (and-true (leb (widthOf vs t) n) (within vs n ts) h .1)
 
-pub pattern-short : (p : ℕ) (e : ℕ → ℕ) → length (fill variables (getD templates p []) e) ≤ 38
+pub pattern-short : (p : ℕ) (e : ℕ → ℕ) → length (fill variables (getD templates p []) e) ≤ lineMax
 unfolding variables decimal
-pattern-short p e = within-at variables 38 templates p e refl
+pattern-short p e = within-at variables lineMax templates p e refl
 
-pub line-short : (op : Op) → length (lineOf op) ≤ 38
+pub line-short : (op : Op) → length (lineOf op) ≤ lineMax
 unfolding lineOf
 line-short op = pattern-short (patternOf op) (valuesOf op)

@@ -1,5 +1,5 @@
 -- Writing and reading are each other's reverse. `read-written`: what is written is read as the operation. `write-read`: the operation that
--- a text is read as is written as that text. `written-exact`: a line is written exactly where none of 7 to 10 applies and the room is enough. Assumes nothing.
+-- a text is read as is written as that text. `written-exact`: a line is written exactly where none of 7 to 10 and 14 applies and the room is enough. Assumes nothing.
 use Prim.Native.Nat.{ℕ, _≤_}
 use mathlib.Core.Path.{_≡_, refl, sym, ap, _∙_, subst}
 use mathlib.Core.Bool.{Bool, true, false}
@@ -26,10 +26,10 @@ use Rattle.grammar.proofs.Lines.{line-exact}
 pub writable-word : (op : Op) (w : ℕ) → encodeOf op ≡ Written.Word w → Writable op
 writable-word op w e =
     let p = word-exact op w .0 e in
-    record { size = p .size; rotation = p .rotation; registers = p .registers; index = p .index }
+    record { size = p .size; rotation = p .rotation; registers = p .registers; start = p .start; index = p .index }
 
 pub word-writable : (op : Op) → Writable op → encodeOf op ≡ Written.Word (writeChecks op .word)
-word-writable op p = word-exact op (writeChecks op .word) .1 (record { size = p .size; rotation = p .rotation; registers = p .registers; index = p .index; word = refl })
+word-writable op p = word-exact op (writeChecks op .word) .1 (record { size = p .size; rotation = p .rotation; registers = p .registers; start = p .start; index = p .index; word = refl })
 
 -- ---- what is answered
 
@@ -55,6 +55,7 @@ module _ (op : Op) (room n : ℕ) where
   by-word Written.NoSize e h = let z : _≡_ {A = ℕ} 0 1 = cc in absurd (omega arith)
   by-word Written.NoRotation e h = let z : _≡_ {A = ℕ} 0 1 = cc in absurd (omega arith)
   by-word Written.RegisterLimit e h = let z : _≡_ {A = ℕ} 0 1 = cc in absurd (omega arith)
+  by-word Written.GroupStart e h = let z : _≡_ {A = ℕ} 0 1 = cc in absurd (omega arith)
   by-word Written.IndexLimit e h = let z : _≡_ {A = ℕ} 0 1 = cc in absurd (omega arith)
 
   whole-written : Whole op room n → lineAnswer op room ≡ LineWritten.Length n
@@ -104,5 +105,6 @@ left-refused op out f = by (lineAnswer op (length out)) f
     by LineWritten.NoSize g = refl
     by LineWritten.NoRotation g = refl
     by LineWritten.RegisterLimit g = refl
+    by LineWritten.GroupStart g = refl
     by LineWritten.IndexLimit g = refl
     by LineWritten.Room g = refl

@@ -1,11 +1,11 @@
 -- The grammar of lines: a template for each form of an operation, as Arm's pages print it, with a small letter for what varies.
-use Prim.Native.Nat.{ℕ, zero, suc, _+_, _-_}
+use Prim.Native.Nat.{ℕ, zero, suc, _+_, _-_, _*_, _/_}
 use Prim.Native.Char.{code}
 use Prim.Native.String.{String, [] as none, _∷_ as _then_}
 use mathlib.Core.Bool.{Bool, true, false, _&&_}
 use mathlib.Core.List.{List, [], _∷_, map}
 use mathlib.Core.Path.{_≡_}
-use lib.Dec.{leb}
+use lib.Dec.{eqb, leb}
 use lib.ListN.{getD}
 use Rattle.isa.specs.declared.types.Size.{Size}
 use Rattle.isa.specs.declared.types.Rotation.{Rotation}
@@ -14,10 +14,13 @@ use Rattle.isa.specs.declared.types.Add.{Add}
 use Rattle.isa.specs.declared.types.Mul.{Mul}
 use Rattle.isa.specs.declared.types.MulIndexed.{MulIndexed}
 use Rattle.isa.specs.declared.types.ByElement.{ByElement}
+use Rattle.isa.specs.declared.types.Group.{Group}
+use Rattle.isa.specs.declared.types.MulGroup.{MulGroup}
 use Rattle.isa.specs.declared.types.Op.{Op}
+use Rattle.isa.specs.Register.{byGroup, groupCount}
 use Rattle.isa.specs.Decode.{sizeOf, rotationOf, addRotationOf, vectorOf}
 use Rattle.isa.specs.Encode.{WriteChecks, writeChecks, sizeBits, rotationBits, addRotationBits, bySize}
-use Rattle.grammar.specs.Template.{Item, byte, var, Choices, numbers, texts, Variables, fill, bind}
+use Rattle.grammar.specs.Template.{Item, byte, var, Choices, numbers, texts, Variables, fill, pickNumber, bind}
 
 abbrev pub ascii : String → List ℕ
 ascii none = []
@@ -52,12 +55,16 @@ unused = below 1
 
 abbrev pub alphabet : List Choices
 alphabet =
-    -- a, b, c
-    unused ∷ unused ∷ unused ∷
+    -- a, b: the first and the last register of a group of two
+    numbers (progression 0 2 16) ∷ numbers (progression 1 2 16) ∷
+    -- c
+    unused ∷
     -- d: the destination
     below 32 ∷
-    -- e, f, g
-    unused ∷ unused ∷ unused ∷
+    -- e, f: the first and the last register of a group of four
+    numbers (progression 0 4 8) ∷ numbers (progression 3 4 8) ∷
+    -- g
+    unused ∷
     -- h: a second source up to 15
     below 16 ∷
     -- i, j, k: an index up to 7, 3, 1
@@ -75,11 +82,20 @@ alphabet =
     -- t: the width of an element
     oneOf ("B" ∷ "H" ∷ "S" ∷ "D" ∷ []) ∷ []
 
-unfoldable pub variables : Variables
-variables = record { slot = λ x. x; choices = λ x. getD alphabet x unused }
+abbrev pub letterA : ℕ
+letterA = 0
+
+abbrev pub letterB : ℕ
+letterB = 1
 
 abbrev pub letterD : ℕ
 letterD = 3
+
+abbrev pub letterE : ℕ
+letterE = 4
+
+abbrev pub letterF : ℕ
+letterF = 5
 
 abbrev pub letterH : ℕ
 letterH = 7
@@ -117,6 +133,17 @@ letterS = 18
 abbrev pub letterT : ℕ
 letterT = 19
 
+-- letters there are
+abbrev pub letterCount : ℕ
+letterCount = 26
+
+-- the registers of a group are one value, its number; every other letter has a value by itself
+abbrev pub slotOf : ℕ → ℕ
+slotOf x = pickNumber (eqb x letterB) letterA (pickNumber (eqb x letterF) letterE x)
+
+unfoldable pub variables : Variables
+variables = record { slot = slotOf; choices = λ x. getD alphabet x unused }
+
 -- ---- the patterns: a template, and the operation that values make
 
 pub record Pattern : Type 0 where
@@ -136,6 +163,10 @@ indexedFrom z m i r = record { size = z; zm = r m; index = r i; zn = r letterN; 
 abbrev pub elementFrom : Size → Form → ℕ → ℕ → (ℕ → ℕ) → ByElement
 elementFrom z f m i r = record { size = z; rm = r m; index = r i; rn = r letterN; rd = r letterD; form = f }
 
+-- with the letter of the group
+abbrev pub groupFrom : Group → ℕ → (ℕ → ℕ) → MulGroup
+groupFrom g x r = record { size = sizeOf (r letterT); zm = r letterH; zdn = r x * groupCount g; group = g }
+
 abbrev pub addPattern : (Add → Op) → String → Pattern
 addPattern op line = record { line = template line; make = λ r. op (addFrom r) }
 
@@ -147,6 +178,9 @@ indexedPattern op z m i line = record { line = template line; make = λ r. op (i
 
 abbrev pub elementPattern : (ByElement → Op) → Size → ((ℕ → ℕ) → Form) → ℕ → ℕ → String → Pattern
 elementPattern op z form m i line = record { line = template line; make = λ r. op (elementFrom z (form r) m i r) }
+
+abbrev pub groupPattern : Group → ℕ → String → Pattern
+groupPattern g x line = record { line = template line; make = λ r. Op.Sqdmulh (groupFrom g x r) }
 
 abbrev pub scalar : (ℕ → ℕ) → Form
 scalar r = Form.Scalar
@@ -171,7 +205,12 @@ patterns =
     elementPattern Op.Sqrdmlsh Size.H scalar letterH letterI "SQRDMLSH Hd, Hn, Vh.H[i]" ∷
     elementPattern Op.Sqrdmlsh Size.S scalar letterM letterJ "SQRDMLSH Sd, Sn, Vm.S[j]" ∷
     elementPattern Op.Sqrdmlsh Size.H (vectorBy letterQ) letterH letterI "SQRDMLSH Vd.qH, Vn.qH, Vh.H[i]" ∷
-    elementPattern Op.Sqrdmlsh Size.S (vectorBy letterP) letterM letterJ "SQRDMLSH Vd.pS, Vn.pS, Vm.S[j]" ∷ []
+    elementPattern Op.Sqrdmlsh Size.S (vectorBy letterP) letterM letterJ "SQRDMLSH Vd.pS, Vn.pS, Vm.S[j]" ∷
+    groupPattern Group.Two letterA "SQDMULH { Za.t-Zb.t }, { Za.t-Zb.t }, Zh.t" ∷
+    groupPattern Group.Four letterE "SQDMULH { Ze.t-Zf.t }, { Ze.t-Zf.t }, Zh.t" ∷ []
+
+abbrev pub patternCount : ℕ
+patternCount = 18
 
 abbrev pub templates : List (List Item)
 templates = map (λ (w : Pattern). w .line) patterns
@@ -201,6 +240,7 @@ patternOf (Op.Sqrdcmlah a) = 5
 patternOf (Op.SqrdcmlahIndexed a) = bySize 6 7 (a .size)
 patternOf (Op.Sqrdmlah a) = byForm (bySize 8 9 (a .size)) (bySize 10 11 (a .size)) (a .form)
 patternOf (Op.Sqrdmlsh a) = byForm (bySize 12 13 (a .size)) (bySize 14 15 (a .size)) (a .form)
+patternOf (Op.Sqdmulh a) = byGroup 16 17 (a .group)
 
 abbrev pub noValues : ℕ → ℕ
 noValues y = 0
@@ -217,6 +257,9 @@ indexedValues m i a = bind letterD (a .zda) (bind letterN (a .zn) (bind m (a .zm
 abbrev pub elementValues : ℕ → ℕ → ℕ → ByElement → ℕ → ℕ
 elementValues q m i a = bind letterD (a .rd) (bind q (formBits (a .form)) (bind letterN (a .rn) (bind m (a .rm) (bind i (a .index) noValues))))
 
+abbrev pub groupValues : ℕ → MulGroup → ℕ → ℕ
+groupValues x a = bind x (a .zdn / groupCount (a .group)) (bind letterT (sizeBits (a .size)) (bind letterH (a .zm) noValues))
+
 unfoldable pub valuesOf : Op → ℕ → ℕ
 valuesOf (Op.Cadd a) = addValues a
 valuesOf (Op.Cmla a) = mulValues a
@@ -226,6 +269,11 @@ valuesOf (Op.Sqrdcmlah a) = mulValues a
 valuesOf (Op.SqrdcmlahIndexed a) = bySize (indexedValues letterL letterJ) (indexedValues letterH letterK) (a .size) a
 valuesOf (Op.Sqrdmlah a) = bySize (elementValues letterQ letterH letterI) (elementValues letterP letterM letterJ) (a .size) a
 valuesOf (Op.Sqrdmlsh a) = bySize (elementValues letterQ letterH letterI) (elementValues letterP letterM letterJ) (a .size) a
+valuesOf (Op.Sqdmulh a) = groupValues (byGroup letterA letterE (a .group)) a
+
+-- the bytes of the longest line
+abbrev pub lineMax : ℕ
+lineMax = 47
 
 unfoldable pub lineOf : Op → List ℕ
 lineOf op = fill variables (getD templates (patternOf op) []) (valuesOf op)

@@ -8,11 +8,12 @@ use Rattle.isa.specs.declared.types.Op.{Op}
 use Rattle.isa.specs.Encode.{writeChecks}
 use Rattle.grammar.specs.Grammar.{lineOf}
 
--- the operation can be written: none of 7 to 10 applies
+-- the operation can be written: none of 7 to 10 and 14 applies
 pub record Writable (op : Op) : Type 0 where
   pub size : writeChecks op .size ≡ true
   pub rotation : writeChecks op .rotation ≡ true
   pub registers : writeChecks op .registers ≡ true
+  pub start : writeChecks op .start ≡ true
   pub index : writeChecks op .index ≡ true
 
 -- the text is the line of the operation

@@ -21,14 +21,15 @@ pub data LineReads (s : List ℕ) : ℕ → List Op → ℕ → Type 0 where
 abbrev pub LineReadsAs : List ℕ → ℕ → List Op → ℕ → Type 0
 LineReadsAs s n v k = (lineReadNumber (readOf s) ≡ n) × (lineReadOperation (readOf s) ≡ v) × (lineReadLength (readOf s) ≡ k)
 
--- ---- writing: the number and the line's length; 13 comes behind 7 to 10
+-- ---- writing: the number and the line's length; 13 comes behind 7, 8, 9, 14 and 10
 
 pub data LineWrites (op : Op) (room : ℕ) : ℕ → ℕ → Type 0 where
   done : Writable op → length (lineOf op) ≤ room → LineWrites op room 0 (length (lineOf op))
   no-size : writeChecks op .size ≡ false → LineWrites op room 7 0
   no-rotation : writeChecks op .size ≡ true → writeChecks op .rotation ≡ false → LineWrites op room 8 0
   register-limit : writeChecks op .size ≡ true → writeChecks op .rotation ≡ true → writeChecks op .registers ≡ false → LineWrites op room 9 0
-  index-limit : writeChecks op .size ≡ true → writeChecks op .rotation ≡ true → writeChecks op .registers ≡ true → writeChecks op .index ≡ false → LineWrites op room 10 0
+  group-start : writeChecks op .size ≡ true → writeChecks op .rotation ≡ true → writeChecks op .registers ≡ true → writeChecks op .start ≡ false → LineWrites op room 14 0
+  index-limit : writeChecks op .size ≡ true → writeChecks op .rotation ≡ true → writeChecks op .registers ≡ true → writeChecks op .start ≡ true → writeChecks op .index ≡ false → LineWrites op room 10 0
   no-room : Writable op → room < length (lineOf op) → LineWrites op room 13 0
 
 abbrev pub LineWritesAs : Op → ℕ → ℕ → ℕ → Type 0

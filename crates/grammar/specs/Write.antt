@@ -16,6 +16,7 @@ refusing (Written.Word w) next = next
 refusing Written.NoSize next = LineWritten.NoSize
 refusing Written.NoRotation next = LineWritten.NoRotation
 refusing Written.RegisterLimit next = LineWritten.RegisterLimit
+refusing Written.GroupStart next = LineWritten.GroupStart
 refusing Written.IndexLimit next = LineWritten.IndexLimit
 
 abbrev pub pickWritten : Bool → LineWritten → LineWritten → LineWritten
@@ -32,6 +33,7 @@ leftBy (LineWritten.Length n) text out = text ++ drop n out
 leftBy LineWritten.NoSize text out = out
 leftBy LineWritten.NoRotation text out = out
 leftBy LineWritten.RegisterLimit text out = out
+leftBy LineWritten.GroupStart text out = out
 leftBy LineWritten.IndexLimit text out = out
 leftBy LineWritten.Room text out = out
 

@@ -12,6 +12,7 @@ pub enum LineWritten {
     NoSize,
     NoRotation,
     RegisterLimit,
+    GroupStart,
     IndexLimit,
     Room,
 }

@@ -10,3 +10,4 @@ pub mod Read
 pub mod Ends
 pub mod Columns
 pub mod Biased
+pub mod High

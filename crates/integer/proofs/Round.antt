@@ -117,7 +117,7 @@ signed-mag true (negsuc n) h = omega arith
 
 -- ---- what a product of two numbers of P has left after a division by P, rounded by less than P
 
-below-divided : (n k P : ℕ) → n < k * P → n / P < k
+pub below-divided : (n k P : ℕ) → n < k * P → n / P < k
 below-divided n k P h = lt-of-mul-lt-mul-right P (lt-of-le-of-lt (div-mul-le-self n P) h)
 
 shr-abs : (P a b : ℕ) → a < b + (P * P + P) → b ≤ a + P * P → natAbs (shrZ (diff a b) P) ≤ P

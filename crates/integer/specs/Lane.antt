@@ -3,9 +3,9 @@
 use mathlib.Core.Path.{_≡_}
 use mathlib.Core.Bool.{true, false}
 use Prim.Native.Nat.{ℕ, _+_, _*_, _^_, _<_}
-use lib.IntN.{ℤ, pos, _+ℤ_}
+use lib.IntN.{ℤ, pos, _+ℤ_, _*ℤ_}
 use lib.Signed.{ltZ, mag}
-use Rattle.integer.specs.Number.{clamp, rounded, wrap, lowest, highest}
+use Rattle.integer.specs.Number.{clamp, rounded, upperHalf, wrap, lowest, highest}
 
 -- The rounded sum, clamped once.
 unfoldable pub saturated : ℕ → ℤ → ℤ → ℤ
@@ -18,6 +18,10 @@ wrapped N c t = wrap N (c +ℤ t)
 -- The sum, clamped.
 unfoldable pub clamped : ℕ → ℤ → ℤ → ℤ
 clamped N c t = clamp N (c +ℤ t)
+
+-- The upper half of the doubled product, clamped once.
+unfoldable pub doubledHigh : ℕ → ℤ → ℤ → ℤ
+doubledHigh N a b = clamp N (upperHalf N (a *ℤ b))
 
 -- What a sum takes in the code: a lane of s + 1 bits, and a number as large as a product of two lanes.
 pub record SumIn (s : ℕ) (x y : ℤ) : Type 0 where

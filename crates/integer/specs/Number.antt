@@ -71,6 +71,10 @@ clamps N z = changed (endOf N z)
 unfoldable pub rounded : ℕ → ℤ → ℤ → ℤ
 rounded N c t = floorDiv (c *ℤ pos (2 ^ N) +ℤ pos 2 *ℤ t +ℤ pos (2 ^ (N - 1))) (2 ^ N)
 
+-- 2 × t / 2^N rounded down: the upper half of t doubled. Nothing is rounded to nearest, and nothing is clamped.
+unfoldable pub upperHalf : ℕ → ℤ → ℤ
+upperHalf N t = floorDiv (pos 2 *ℤ t) (2 ^ N)
+
 -- z, or its negative.
 abbrev pub signedBy : Bool → ℤ → ℤ
 signedBy minus z = cond minus (negℤ z) z

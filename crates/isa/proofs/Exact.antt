@@ -13,7 +13,7 @@ use Rattle.isa.specs.declared.types.Decoded.{Decoded}
 use Rattle.isa.specs.Field.{Row, matches, rowWord, fieldValues, fieldValue}
 use Rattle.isa.specs.Table.{size, Q}
 use Rattle.isa.specs.Decode.{Entry, table, decodeOf, elementOf, vectorOf, sizeOf}
-use Rattle.isa.specs.Allowed.{MatchesSome, sveRows, elementRows, AllowedWord, ReservedWord, OutsideWord}
+use Rattle.isa.specs.Allowed.{MatchesSome, sveRows, elementRows, groupRows, AllowedWord, ReservedWord, OutsideWord}
 use Rattle.isa.proofs.Fields.{Of}
 use Rattle.isa.proofs.Table.{_⨾_, NoRow, row-read, by-row, no-row-outside}
 
@@ -86,18 +86,20 @@ module _ (w : ℕ) where
   operation-only op =
       by-row table w (Decoded.Operation op) (AllowedWord w)
       (
-      (λ e k. inl (some-at 0 sveRows w e)) ⨾
-      (λ e k. inl (some-at 1 sveRows w e)) ⨾
-      (λ e k. inl (some-at 2 sveRows w e)) ⨾
-      (λ e k. inl (some-at 3 sveRows w e)) ⨾
-      (λ e k. inl (some-at 4 sveRows w e)) ⨾
-      (λ e k. inl (some-at 5 sveRows w e)) ⨾
-      (λ e k. inl (some-at 6 sveRows w e)) ⨾
-      (λ e k. inl (some-at 7 sveRows w e)) ⨾
+      (λ e k. inl (some-at 0 (sveRows ++ groupRows) w e)) ⨾
+      (λ e k. inl (some-at 1 (sveRows ++ groupRows) w e)) ⨾
+      (λ e k. inl (some-at 2 (sveRows ++ groupRows) w e)) ⨾
+      (λ e k. inl (some-at 3 (sveRows ++ groupRows) w e)) ⨾
+      (λ e k. inl (some-at 4 (sveRows ++ groupRows) w e)) ⨾
+      (λ e k. inl (some-at 5 (sveRows ++ groupRows) w e)) ⨾
+      (λ e k. inl (some-at 6 (sveRows ++ groupRows) w e)) ⨾
+      (λ e k. inl (some-at 7 (sveRows ++ groupRows) w e)) ⨾
       (λ e k. inr (some-at 0 elementRows w e, element-operation Op.Sqrdmlah _ w (fieldValue size w) op k)) ⨾
       (λ e k. inr (some-at 1 elementRows w e, element-operation Op.Sqrdmlah _ w (fieldValue size w) op k)) ⨾
       (λ e k. inr (some-at 2 elementRows w e, element-operation Op.Sqrdmlsh _ w (fieldValue size w) op k)) ⨾
-      (λ e k. inr (some-at 3 elementRows w e, element-operation Op.Sqrdmlsh _ w (fieldValue size w) op k)) ⨾ tt)
+      (λ e k. inr (some-at 3 elementRows w e, element-operation Op.Sqrdmlsh _ w (fieldValue size w) op k)) ⨾
+      (λ e k. inl (some-at 8 (sveRows ++ groupRows) w e)) ⨾
+      (λ e k. inl (some-at 9 (sveRows ++ groupRows) w e)) ⨾ tt)
       (λ none k. absurd (operation-outside op (sym k)))
 
   -- the four by-element rows: what the word decodes to, whatever the size is
@@ -112,9 +114,9 @@ module _ (w : ℕ) where
   abbrev IsOperation : Type 0
   IsOperation = (op : Op) × (decodeOf w ≡ Decoded.Operation op)
 
-  of-sve : MatchesSome sveRows w → IsOperation
+  of-sve : MatchesSome (sveRows ++ groupRows) w → IsOperation
   of-sve =
-      by-some sveRows w IsOperation
+      by-some (sveRows ++ groupRows) w IsOperation
       ((λ e. (_, row-read w 0 e)) ⨾
       (λ e. (_, row-read w 1 e)) ⨾
       (λ e. (_, row-read w 2 e)) ⨾
@@ -122,7 +124,9 @@ module _ (w : ℕ) where
       (λ e. (_, row-read w 4 e)) ⨾
       (λ e. (_, row-read w 5 e)) ⨾
       (λ e. (_, row-read w 6 e)) ⨾
-      (λ e. (_, row-read w 7 e)) ⨾ tt)
+      (λ e. (_, row-read w 7 e)) ⨾
+      (λ e. (_, row-read w 12 e)) ⨾
+      (λ e. (_, row-read w 13 e)) ⨾ tt)
 
   of-element : MatchesSome elementRows w → (fieldValue size w ≡ 1) ⊎ (fieldValue size w ≡ 2) → IsOperation
   of-element m s = element-answer IsOperation (λ mk f e. ⊎-elim (λ z. (_, e ∙ ap (λ (n : ℕ). elementOf mk f w (sizeOf n)) z)) (λ z. (_, e ∙ ap (λ (n : ℕ). elementOf mk f w (sizeOf n)) z)) s) m
@@ -145,7 +149,9 @@ module _ (w : ℕ) where
       (λ e k. (some-at 0 elementRows w e, element-reserved Op.Sqrdmlah _ w (fieldValue size w) (omega arith) k)) ⨾
       (λ e k. (some-at 1 elementRows w e, element-reserved Op.Sqrdmlah _ w (fieldValue size w) (omega arith) k)) ⨾
       (λ e k. (some-at 2 elementRows w e, element-reserved Op.Sqrdmlsh _ w (fieldValue size w) (omega arith) k)) ⨾
-      (λ e k. (some-at 3 elementRows w e, element-reserved Op.Sqrdmlsh _ w (fieldValue size w) (omega arith) k)) ⨾ tt)
+      (λ e k. (some-at 3 elementRows w e, element-reserved Op.Sqrdmlsh _ w (fieldValue size w) (omega arith) k)) ⨾
+      (λ e k. absurd (operation-reserved _ k)) ⨾
+      (λ e k. absurd (operation-reserved _ k)) ⨾ tt)
       (λ none k. absurd (reserved-outside (sym k)))
 
   reserved-all : ReservedWord w → decodeOf w ≡ Decoded.Reserved
@@ -159,7 +165,7 @@ module _ (w : ℕ) where
 
   outside-only : decodeOf w ≡ Decoded.Outside → OutsideWord w
   outside-only h =
-      by-some (sveRows ++ elementRows) w ⊥
+      by-some (sveRows ++ elementRows ++ groupRows) w ⊥
       ((λ e. operation-outside _ (sym (row-read w 0 e) ∙ h)) ⨾
       (λ e. operation-outside _ (sym (row-read w 1 e) ∙ h)) ⨾
       (λ e. operation-outside _ (sym (row-read w 2 e) ∙ h)) ⨾
@@ -171,7 +177,9 @@ module _ (w : ℕ) where
       (λ e. element-outside Op.Sqrdmlah _ w (fieldValue size w) (sym (row-read w 8 e) ∙ h)) ⨾
       (λ e. element-outside Op.Sqrdmlah _ w (fieldValue size w) (sym (row-read w 9 e) ∙ h)) ⨾
       (λ e. element-outside Op.Sqrdmlsh _ w (fieldValue size w) (sym (row-read w 10 e) ∙ h)) ⨾
-      (λ e. element-outside Op.Sqrdmlsh _ w (fieldValue size w) (sym (row-read w 11 e) ∙ h)) ⨾ tt)
+      (λ e. element-outside Op.Sqrdmlsh _ w (fieldValue size w) (sym (row-read w 11 e) ∙ h)) ⨾
+      (λ e. operation-outside _ (sym (row-read w 12 e) ∙ h)) ⨾
+      (λ e. operation-outside _ (sym (row-read w 13 e) ∙ h)) ⨾ tt)
 
   pub outside-exact : (decodeOf w ≡ Decoded.Outside → OutsideWord w) × (OutsideWord w → decodeOf w ≡ Decoded.Outside)
   unfolding decodeOf

@@ -7,8 +7,8 @@ use mathlib.Core.List.{List, [], _∷_}
 use mathlib.Core.Bool.{Bool, true, false, _&&_}
 use native.Mathlib.Omega.{arith}
 use native.Mathlib.Nat.{mod-lt}
-use borrow.Author.Tests.{le-leb, leb-true}
-use lib.Dec.{leb}
+use borrow.Author.Tests.{le-leb, leb-true, eq-eqb, eqb-true}
+use lib.Dec.{leb, eqb}
 use lib.ListN.{getD}
 use lib.Pow.{pow-pos}
 use Rattle.isa.specs.declared.types.Size.{Size}
@@ -18,12 +18,15 @@ use Rattle.isa.specs.declared.types.Add.{Add}
 use Rattle.isa.specs.declared.types.Mul.{Mul}
 use Rattle.isa.specs.declared.types.MulIndexed.{MulIndexed}
 use Rattle.isa.specs.declared.types.ByElement.{ByElement}
+use Rattle.isa.specs.declared.types.Group.{Group}
+use Rattle.isa.specs.declared.types.MulGroup.{MulGroup}
 use Rattle.isa.specs.declared.types.Op.{Op}
 use Rattle.isa.specs.declared.types.Decoded.{Decoded}
 use Rattle.isa.specs.Field.{Field, Row, width, fieldValue, fieldValues, rowWord}
-use Rattle.isa.specs.Table.{size, rot1, rot2, ZmAdd, ZmMul, Zdn, Zda, Zn, Rn, Rd, Rm, H, L, M, Q, addRow, mulRow, indexedRow, scalarRow, vectorRow, elementRowFields}
-use Rattle.isa.specs.Decode.{sizeOf, rotationOf, addRotationOf, vectorOf, addOf, mulOf, indexedOf, elementWith, elementOf, elementH, elementS}
-use Rattle.isa.specs.Encode.{WriteChecks, sizeBits, rotationBits, addRotation, addRotationBits, halfOrSingle, bySize, addChecks, mulChecks, indexedChecks, formWord, elementFieldsOf, elementChecks}
+use Rattle.isa.specs.Table.{size, rot1, rot2, ZmAdd, ZmMul, Zdn, Zda, Zn, Rn, Rd, Rm, H, L, M, Q, addRow, mulRow, indexedRow, scalarRow, vectorRow, elementRowFields, ZmGroup, groupRow}
+use Rattle.isa.specs.Register.{byGroup, groupCount}
+use Rattle.isa.specs.Decode.{sizeOf, rotationOf, addRotationOf, vectorOf, addOf, mulOf, indexedOf, elementWith, elementOf, elementH, elementS, groupOf}
+use Rattle.isa.specs.Encode.{WriteChecks, sizeBits, rotationBits, addRotation, addRotationBits, halfOrSingle, bySize, addChecks, mulChecks, indexedChecks, formWord, elementFieldsOf, elementChecks, groupChecks}
 use Rattle.isa.proofs.Fields.{sound, Of, Fit, and-left, and-right, fields-written, of-written}
 use Rattle.isa.proofs.Checks.{ChecksPassed}
 
@@ -126,6 +129,7 @@ module _ (base w : ℕ) where
     size = refl;
     rotation = add-rotation-has (fieldValue rot1 w);
     registers = and-true _ _ (field-le ZmAdd w 31 refl) (field-le Zdn w 31 refl);
+    start = refl;
     index = refl;
     word = ap (rowWord (addRow base)) (λ k. size-bits-of (fieldValue size w) (omega arith) k ∷ add-rotation-bits-of (fieldValue rot1 w) (omega arith) k ∷ fieldValue ZmAdd w ∷ fieldValue Zdn w ∷ []) ∙ sym e;
   }
@@ -151,6 +155,7 @@ module _ (base w : ℕ) where
     size = refl;
     rotation = refl;
     registers = and-true _ _ (field-le ZmMul w 31 refl) (and-true _ _ (field-le Zn w 31 refl) (field-le Zda w 31 refl));
+    start = refl;
     index = refl;
     word = ap (rowWord (mulRow base)) (λ k. size-bits-of (fieldValue size w) (omega arith) k ∷ fieldValue ZmMul w ∷ rotation-bits-of (fieldValue rot2 w) (omega arith) k ∷ fieldValue Zn w ∷ fieldValue Zda w ∷ []) ∙ sym e;
   }
@@ -184,6 +189,7 @@ module _ (h s : Row) (z : Size) (index zm : Field) (base w : ℕ) (at : IndexedA
     size = at .has;
     rotation = refl;
     registers = and-true _ _ (field-le zm w (bySize 7 15 z) (at .limit)) (and-true _ _ (field-le Zn w 31 refl) (field-le Zda w 31 refl));
+    start = refl;
     index = field-le index w (bySize 3 1 z) (at .last);
     word = ap (λ (r : Row). rowWord r (fieldValue index w ∷ fieldValue zm w ∷ rotationBits (rotationOf (fieldValue rot2 w)) ∷ fieldValue Zn w ∷ fieldValue Zda w ∷ [])) (at .row)
         ∙ ap (rowWord (indexedRow index zm base)) (λ k. fieldValue index w ∷ fieldValue zm w ∷ rotation-bits-of (fieldValue rot2 w) (omega arith) k ∷ fieldValue Zn w ∷ fieldValue Zda w ∷ []) ∙ sym e;
@@ -219,6 +225,7 @@ module _ (scalar vector : ℕ) (f : Form) (w : ℕ) (e : w ≡ formWord (scalarR
         size = refl;
         rotation = refl;
         registers = and-true _ _ (field-le Rm w 15 refl) (and-true _ _ (field-le Rn w 31 refl) (field-le Rd w 31 refl));
+        start = refl;
         index = le-leb (elementH f w .index) 7 (omega arith);
         word = ap (formWord (scalarRow scalar) (vectorRow vector) f) (λ k. sym s k ∷ i .0 k ∷ i .1 k ∷ fieldValue Rm w ∷ i .2 k ∷ fieldValue Rn w ∷ fieldValue Rd w ∷ []) ∙ sym e;
       }
@@ -233,6 +240,7 @@ module _ (scalar vector : ℕ) (f : Form) (w : ℕ) (e : w ≡ formWord (scalarR
         size = refl;
         rotation = refl;
         registers = and-true _ _ (le-leb (elementS f w .rm) 31 (omega arith)) (and-true _ _ (field-le Rn w 31 refl) (field-le Rd w 31 refl));
+        start = refl;
         index = le-leb (elementS f w .index) 3 (omega arith);
         word = ap (formWord (scalarRow scalar) (vectorRow vector) f) (λ k. sym s k ∷ l k ∷ m k ∷ r k ∷ h k ∷ fieldValue Rn w ∷ fieldValue Rd w ∷ []) ∙ sym e;
       }
@@ -273,3 +281,68 @@ module _ (mk : ByElement → Op) (f : Form) (rm index rn rd : ℕ) where
       let i = leb-true index 3 hi in
       (omega arith, (omega arith, (omega arith, (omega arith, (omega arith, (hn, (hd, tt)))))))
   element-fits Size.D h hm hn hd hi = absurd (no-such h)
+
+-- ---- groups, over the group: the place of its first register
+
+abbrev groupFrom : Group → List ℕ → MulGroup
+groupFrom g vs = record { size = sizeOf (getD vs 0 0); zm = getD vs 1 0; zdn = getD vs 2 0 * groupCount g; group = g }
+
+-- what a group means to its family: the field of the first register has room for 32 registers
+pub record GroupAt (two four : Row) (g : Group) (zdn : Field) (base : ℕ) : Type 0 where
+  pub row : byGroup two four g ≡ groupRow zdn base
+  pub room : 2 ^ width zdn * groupCount g ≡ 32
+  pub whole : sound (groupRow zdn base) ≡ true
+
+-- a first register that is v times the group's registers
+start-in : (g : Group) (v room : ℕ) → v < room → room * groupCount g ≡ 32 → leb (v * groupCount g) 31 ≡ true
+start-in Group.Two v room h e = le-leb (v * 2) 31 (omega arith)
+start-in Group.Four v room h e = le-leb (v * 4) 31 (omega arith)
+
+start-multiple : (g : Group) (v : ℕ) → eqb (v * groupCount g % groupCount g) 0 ≡ true
+start-multiple Group.Two v = eq-eqb (v * 2 % 2) 0 (omega arith)
+start-multiple Group.Four v = eq-eqb (v * 4 % 4) 0 (omega arith)
+
+start-over : (g : Group) (v : ℕ) → v * groupCount g / groupCount g ≡ v
+start-over Group.Two v = omega arith
+start-over Group.Four v = omega arith
+
+-- a first register that is a multiple
+over-fits : (g : Group) (d room : ℕ) → d < 32 → room * groupCount g ≡ 32 → d / groupCount g < room
+over-fits Group.Two d room h e = omega arith
+over-fits Group.Four d room h e = omega arith
+
+over-back : (g : Group) (d : ℕ) → eqb (d % groupCount g) 0 ≡ true → d / groupCount g * groupCount g ≡ d
+over-back Group.Two d e = let z = eqb-true (d % 2) 0 e in omega arith
+over-back Group.Four d e = let z = eqb-true (d % 4) 0 e in omega arith
+
+module _ (two four : Row) (g : Group) (zdn : Field) (base w : ℕ) (at : GroupAt two four g zdn base) where
+  pub group-back : Of (groupRow zdn base) w → ChecksPassed (groupChecks two four (groupOf g zdn w)) w
+  group-back e =
+      let v = fieldValue zdn w in
+      let low : v < 2 ^ width zdn = mod-lt (w / 2 ^ zdn .low) (pow-pos (width zdn)) in
+      record {
+        size = refl;
+        rotation = refl;
+        registers = and-true _ _ (field-le ZmGroup w 15 refl) (start-in g v (2 ^ width zdn) low (at .room));
+        start = start-multiple g v;
+        index = refl;
+        word = ap (λ (r : Row). rowWord r (sizeBits (sizeOf (fieldValue size w)) ∷ fieldValue ZmGroup w ∷ v * groupCount g / groupCount g ∷ [])) (at .row)
+            ∙ ap (rowWord (groupRow zdn base)) (λ k. size-bits-of (fieldValue size w) (omega arith) k ∷ fieldValue ZmGroup w ∷ start-over g v k ∷ []) ∙ sym e;
+      }
+
+  -- of an operation of that group, given by its fields
+  pub group-read : (a : MulGroup) → g ≡ a .group → ChecksPassed (groupChecks two four a) w → Of (groupRow zdn base) w × (groupOf g zdn w ≡ a)
+  group-read a e p =
+      let vs = sizeBits (a .size) ∷ a .zm ∷ a .zdn / groupCount (a .group) ∷ [] in
+      let room : 2 ^ width zdn * groupCount (a .group) ≡ 32 = ap (λ (x : Group). 2 ^ width zdn * groupCount x) (sym e) ∙ at .room in
+      let first : a .zdn < 32 = within (a .zdn) 31 32 refl (and-right (leb (a .zm) 15) _ (p .registers)) in
+      let fit : Fit (groupRow zdn base .fields) vs =
+      (size-lt (a .size), (within (a .zm) 15 16 refl (and-left _ (leb (a .zdn) 31) (p .registers)), (over-fits (a .group) (a .zdn) (2 ^ width zdn) first room, tt))) in
+      let word : rowWord (groupRow zdn base) vs ≡ w =
+      ap (λ (r : Row). rowWord r vs) (sym (at .row)) ∙ ap (λ (x : Group). rowWord (byGroup two four x) vs) e ∙ p .word in
+      let back : a .zdn / groupCount (a .group) * groupCount g ≡ a .zdn =
+      ap (λ (x : Group). a .zdn / groupCount (a .group) * groupCount x) e ∙ over-back (a .group) (a .zdn) (p .start) in (
+        subst (Of (groupRow zdn base)) word (of-written (groupRow zdn base) (at .whole) vs fit),
+        ap (λ (x : ℕ). groupOf g zdn x) (sym word) ∙ ap (groupFrom g) (fields-written (groupRow zdn base) (at .whole) vs fit)
+            ∙ (λ k. record { size = size-of-bits (a .size) k; zm = a .zm; zdn = back k; group = e k }),
+      )

@@ -31,6 +31,7 @@ valid-fits (Op.CmlaIndexed a) v = omega (arith, index-fits 1 (a .index) (a .size
 valid-fits (Op.SqrdcmlahIndexed a) v = omega (arith, index-fits 1 (a .index) (a .size) (v .size) (v .index))
 valid-fits (Op.Sqrdmlah a) v = index-fits 2 (a .index) (a .size) (v .size) (v .index)
 valid-fits (Op.Sqrdmlsh a) v = index-fits 2 (a .index) (a .size) (v .size) (v .index)
+valid-fits (Op.Sqdmulh a) v = tt
 
 pub decoded-fits : (w : ℕ) (op : Op) → decodeOf w ≡ Decoded.Operation op → Fits op
 decoded-fits w op e = valid-fits op (decoded-valid w op e)

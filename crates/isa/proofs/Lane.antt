@@ -59,14 +59,14 @@ module _ (e i : ℕ) where
   lane-pair S h = omega arith
   lane-pair D h = omega arith
 
-  lane-part : (z : Size) → i < bytes z → (bytes z * e + i) / bytes z ≡ e
+  pub lane-part : (z : Size) → i < bytes z → (bytes z * e + i) / bytes z ≡ e
   unfolding bytes
   lane-part B h = omega arith
   lane-part H h = omega arith
   lane-part S h = omega arith
   lane-part D h = omega arith
 
-  lane-place : (z : Size) → i < bytes z → (bytes z * e + i) % bytes z ≡ i
+  pub lane-place : (z : Size) → i < bytes z → (bytes z * e + i) % bytes z ≡ i
   unfolding bytes
   lane-place B h = omega arith
   lane-place H h = omega arith
@@ -74,7 +74,7 @@ module _ (e i : ℕ) where
   lane-place D h = omega arith
 
 -- an element whose bytes are those of v
-element-of : (z : Size) (b : Bytes) (e : ℕ) (v : ℤ) → ((i : ℕ) → i < bytes z → b (bytes z * e + i) ≡ byteOf (bits z) v i) →
+pub element-of : (z : Size) (b : Bytes) (e : ℕ) (v : ℤ) → ((i : ℕ) → i < bytes z → b (bytes z * e + i) ≡ byteOf (bits z) v i) →
     element z b e ≡ wrap (bits z) v
 unfolding element wrap byteOf digit
 element-of z b e v h =
@@ -91,7 +91,7 @@ lane-written z choose result c n m e = element-of z _ e _ (λ i h. rw (lane-pair
 
 -- ---- the families that clamp: their lanes are in range, so nothing is lost
 
-some-bits : (z : Size) → 0 < bits z
+pub some-bits : (z : Size) → 0 < bits z
 unfolding bits bytes
 some-bits B = omega arith
 some-bits H = omega arith

@@ -25,3 +25,4 @@ pub mod Fits
 pub mod Agnostic
 pub mod Sources
 pub mod Words
+pub mod LaneWise

@@ -10,7 +10,7 @@ use borrow.Author.Tests.{le-ltb}
 use lib.IntN.{ℤ}
 use Rattle.integer.specs.Number.{signed, changed, endOf}
 use Rattle.isa.specs.Register.{Bytes, Regs, window, segment, Size, B, H, S, D, bytes, bits, pairs, little, element, complex, Complex}
-use Rattle.isa.specs.Meaning.{Op, Cadd, Sqcadd, Cmla, Sqrdcmlah, CmlaIndexed, SqrdcmlahIndexed, Sqrdmlah, Sqrdmlsh, Form, Scalar, Vector64, Vector128, laneCount, indexed, own, pairBytes, laneBytes, laneValue, laneEnd, laneClamps, above, anyBelow, adds, subtracts, writes, written, step, flagAfter, advancedSimd}
+use Rattle.isa.specs.Meaning.{Op, Cadd, Sqcadd, Cmla, Sqrdcmlah, CmlaIndexed, SqrdcmlahIndexed, Sqrdmlah, Sqrdmlsh, Sqdmulh, Form, Scalar, Vector64, Vector128, laneCount, indexed, own, pairBytes, laneWise, laneBytes, laneValue, laneEnd, laneClamps, above, anyBelow, adds, subtracts, writes, written, step, flagAfter, advancedSimd}
 
 -- ---- where byte 16k + i stands: its pair, its part of the pair, its place in the element
 
@@ -35,6 +35,13 @@ module _ (k i : ℕ) where
   place-of H = omega arith
   place-of S = omega arith
   place-of D = omega arith
+
+  lane-of : (z : Size) → (16 * k + i) / bytes z ≡ 2 * pairs z * k + i / bytes z
+  unfolding bytes pairs
+  lane-of B = omega arith
+  lane-of H = omega arith
+  lane-of S = omega arith
+  lane-of D = omega arith
 
   lane-at : (z : Size) → bytes z * (2 * pairs z * k + i) ≡ 16 * k + bytes z * i
   unfolding bytes pairs
@@ -82,6 +89,12 @@ module _ (z : Size) (k : ℕ) where
       let q = i / (2 * bytes z) in
       rw (pair-of k i z, part-of k i z, place-of k i z, moves q, complex-shift c q, complex-shift n q, complex-shift m (choose q))
 
+  pub lane-wise-shift : (result : ℤ → ℤ → ℤ) (c m : Bytes) (i : ℕ) → laneWise z result c m (16 * k + i) ≡ laneWise z result (window k c) (window k m) i
+  unfolding laneWise
+  lane-wise-shift result c m i =
+      let e = i / bytes z in
+      rw (lane-of k i z, place-of k i z, element-shift c e, element-shift m e)
+
   own-shift : (p : ℕ) → own (pairs z * k + p) ≡ pairs z * k + own p
   unfolding own
   own-shift p = refl
@@ -97,6 +110,7 @@ written-shift (CmlaIndexed o) sve regs k r = pair-shift (o .size) k (indexed (o 
 written-shift (SqrdcmlahIndexed o) sve regs k r = pair-shift (o .size) k (indexed (o .size) (o .index)) (λ p. indexed-shift k p (o .size) (o .index)) _ _ _ _
 written-shift (Sqrdmlah o) sve regs k r = absurd (true≢false sve)
 written-shift (Sqrdmlsh o) sve regs k r = absurd (true≢false sve)
+written-shift (Sqdmulh o) sve regs k r = lane-wise-shift (o .size) k _ (regs r) (regs (o .zm))
 
 -- ---- locality
 
@@ -177,6 +191,15 @@ complex-local z b₁ b₂ near p h =
     let odd = element-local z b₁ b₂ near (2 * p + 1) (omega arith) in
     λ i. record { re = even i; im = odd i }
 
+-- two sources with the same first 16 bytes
+pub lane-wise-local : (z : Size) (result : ℤ → ℤ → ℤ) (c₁ m₁ c₂ m₂ : Bytes) → Near c₁ c₂ → Near m₁ m₂ →
+    (i : ℕ) → i < 16 → laneWise z result c₁ m₁ i ≡ laneWise z result c₂ m₂ i
+unfolding laneWise
+lane-wise-local z result c₁ m₁ c₂ m₂ c m i h =
+    let e = i / bytes z in
+    let l = lane-small z i h in
+    rw (element-local z c₁ c₂ c e l, element-local z m₁ m₂ m e l)
+
 -- three sources with the same first 16 bytes
 module _ (z : Size) (c₁ n₁ m₁ c₂ n₂ m₂ : Bytes) (c : Near c₁ c₂) (n : Near n₁ n₂) (m : Near m₁ m₂) where
   pub pair-local : (choose : ℕ → ℕ) → ((p : ℕ) → p < pairs z → choose p < pairs z) → (result : Complex → Complex → Complex → Complex) →
@@ -216,6 +239,7 @@ Fits (CmlaIndexed o) = (o .index) < pairs (o .size)
 Fits (SqrdcmlahIndexed o) = (o .index) < pairs (o .size)
 Fits (Sqrdmlah o) = (o .index) < 2 * pairs (o .size)
 Fits (Sqrdmlsh o) = (o .index) < 2 * pairs (o .size)
+Fits (Sqdmulh o) = Unit {0}
 
 -- the law of locality, for the bytes and for the flag
 module _ (r₁ r₂ : Regs) (alike : Alike r₁ r₂) where
@@ -231,6 +255,7 @@ module _ (r₁ r₂ : Regs) (alike : Alike r₁ r₂) where
       pair-local (o .size) _ _ _ _ _ _ (alike (o .zda)) (alike (o .zn)) (alike (o .zm)) (indexed (o .size) (o .index)) (indexed-small (o .size) (o .index) fits) _
   written-local (Sqrdmlah o) fits r = lane-local (o .size) _ _ _ _ _ _ (alike (o .rd)) (alike (o .rn)) (alike (o .rm)) (o .form) (o .index) fits adds
   written-local (Sqrdmlsh o) fits r = lane-local (o .size) _ _ _ _ _ _ (alike (o .rd)) (alike (o .rn)) (alike (o .rm)) (o .form) (o .index) fits subtracts
+  written-local (Sqdmulh o) fits r = lane-wise-local (o .size) _ _ _ _ _ (alike r) (alike (o .zm))
 
   pub flag-local : (op : Op) → Fits op → (flag : Bool) → flagAfter op r₁ flag ≡ flagAfter op r₂ flag
   unfolding flagAfter Fits Alike
@@ -242,6 +267,7 @@ module _ (r₁ r₂ : Regs) (alike : Alike r₁ r₂) where
   flag-local (SqrdcmlahIndexed o) fits flag = refl
   flag-local (Sqrdmlah o) fits flag = ap (λ b. flag || b) (clamps-local (o .size) _ _ _ _ _ _ (alike (o .rd)) (alike (o .rn)) (alike (o .rm)) (o .form) (o .index) fits adds)
   flag-local (Sqrdmlsh o) fits flag = ap (λ b. flag || b) (clamps-local (o .size) _ _ _ _ _ _ (alike (o .rd)) (alike (o .rn)) (alike (o .rm)) (o .form) (o .index) fits subtracts)
+  flag-local (Sqdmulh o) fits flag = refl
 
 -- an SVE2 operation leaves the flag
 pub flag-kept : (op : Op) → advancedSimd op ≡ false → (regs : Regs) (flag : Bool) → flagAfter op regs flag ≡ flag
@@ -254,6 +280,7 @@ flag-kept (CmlaIndexed o) sve regs flag = refl
 flag-kept (SqrdcmlahIndexed o) sve regs flag = refl
 flag-kept (Sqrdmlah o) sve regs flag = absurd (true≢false sve)
 flag-kept (Sqrdmlsh o) sve regs flag = absurd (true≢false sve)
+flag-kept (Sqdmulh o) sve regs flag = refl
 
 -- Above the first 16 bytes, what an Advanced SIMD operation writes depends on nothing. `lane-above`: for its bytes; `written-above`: for the operation.
 pub lane-above : (l : Form) (z : Size) (index : ℕ) (minus : Bool) (c n m : Bytes) (j : ℕ) → 16 ≤ j → laneBytes l z index minus c n m j ≡ above
@@ -270,6 +297,7 @@ written-above (CmlaIndexed o) simd regs r j high = absurd (false≢true simd)
 written-above (SqrdcmlahIndexed o) simd regs r j high = absurd (false≢true simd)
 written-above (Sqrdmlah o) simd regs r j high = lane-above (o .form) (o .size) (o .index) adds _ _ _ j high
 written-above (Sqrdmlsh o) simd regs r j high = lane-above (o .form) (o .size) (o .index) subtracts _ _ _ j high
+written-above (Sqdmulh o) simd regs r j high = absurd (false≢true simd)
 
 -- ---- the same laws of the whole step
 

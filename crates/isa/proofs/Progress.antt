@@ -1,18 +1,18 @@
 -- An operation worked in the file, one 128-bit segment after the other. `progress-start`: with no segment worked the file is as it was. `progress-on`: a
 -- store of what an SVE2 operation writes into segment k goes one segment on. `progress-end`: with every segment worked the file is as the operation
--- leaves it. `register-stored`: so is a file in which the whole register that an operation writes has been stored. Assumes nothing.
+-- leaves it. `registers-stored`: so is a file in which the whole registers that an operation writes have been stored; `register-stored`: one. Assumes nothing.
 use mathlib.Core.Path.{_≡_, refl, sym, ap, subst, _∙_}
 use mathlib.Core.Logic.{_≢_}
-use Prim.Native.Nat.{ℕ, suc, _+_, _*_, _/_, _%_, _<_, _≤_}
+use Prim.Native.Nat.{ℕ, suc, _+_, _-_, _*_, _/_, _%_, _<_, _≤_}
 use native.Mathlib.Omega.{arith}
-use native.Mathlib.Nat.{mul-le-mul-right}
+use native.Mathlib.Nat.{mul-le-mul-right, add-mul}
 use mathlib.Core.Bool.{true, false, cond}
 use mathlib.Core.List.{List}
 use lib.ListN.{length, getD}
-use lib.Dec.{ltb, eqb}
-use borrow.Author.Tests.{ltb-true, ltb-false, lt-ltb, le-ltb, eqb-true, eqb-false, eq-eqb, ne-eqb}
+use lib.Dec.{leb, ltb, eqb}
+use borrow.Author.Tests.{ltb-true, ltb-false, lt-ltb, le-ltb, le-leb, lt-leb, leb-true, eqb-true, eqb-false, eq-eqb, ne-eqb}
 use Rattle.isa.specs.Register.{Regs, window, segment}
-use Rattle.isa.specs.Meaning.{Op, writes, written, step, advancedSimd}
+use Rattle.isa.specs.Meaning.{Op, inGroup, writes, written, step, advancedSimd}
 use Rattle.isa.specs.File.{legal, byteAt, fileOf}
 use Rattle.isa.proofs.Local.{Fits, Near, Alike, written-shift, written-local}
 use Rattle.isa.proofs.File.{cases, legal-exact, fileOf-length, fileOf-at, fileOf-cong, fileOf-bytes, byteAt-past}
@@ -169,21 +169,57 @@ module _ (L : ℕ) (ok : legal L ≡ true) (op : Op) (f : List ℕ) (size : leng
           (λ e. subst (λ n. byteAt L after n j ≡ worked (k + 1) op (byteAt L f) n j) (sym (eqb-true r d e)) (at-d j l))
           (λ e. off-d r j h l (eqb-false r d e)))
 
--- ---- a store of the whole register
+-- ---- a store of whole registers
 
-module _ (L : ℕ) (ok : legal L ≡ true) (op : Op) (d : ℕ) (only : (r : ℕ) → writes op r ≡ eqb r d) (g after : List ℕ) (same : length after ≡ 4 * L)
-    (inside : (j : ℕ) → j < L / 8 → getD after (d * (L / 8) + j) 0 ≡ written op (byteAt L g) d j)
-    (low : (x : ℕ) → x < d * (L / 8) → getD after x 0 ≡ getD g x 0)
-    (high : (x : ℕ) → d * (L / 8) + L / 8 ≤ x → getD after x 0 ≡ getD g x 0) where
-  in-register : (j : ℕ) → j < L / 8 → byteAt L after d j ≡ step op (byteAt L g) d j
-  unfolding byteAt
-  in-register j l = inside j l ∙ sym (step-writes op (byteAt L g) d j (only d ∙ eq-eqb d d refl))
+module _ (L : ℕ) (ok : legal L ≡ true) (op : Op) (first count : ℕ) (only : (r : ℕ) → writes op r ≡ inGroup first count r) (g after : List ℕ) (same : length after ≡ 4 * L)
+    (inside : (r j : ℕ) → r < count → j < L / 8 → getD after ((first + r) * (L / 8) + j) 0 ≡ written op (byteAt L g) (first + r) j)
+    (low : (x : ℕ) → x < first * (L / 8) → getD after x 0 ≡ getD g x 0)
+    (high : (x : ℕ) → (first + count) * (L / 8) ≤ x → getD after x 0 ≡ getD g x 0) where
+  kept : (r j : ℕ) → writes op r ≡ false → byteAt L after r j ≡ byteAt L g r j → byteAt L after r j ≡ step op (byteAt L g) r j
+  kept r j e same-byte = same-byte ∙ sym (step-keeps op (byteAt L g) r j e)
 
-  pub register-stored : after ≡ fileOf L (step op (byteAt L g))
-  register-stored =
+  below-group : (r j : ℕ) → j < L / 8 → r < first → byteAt L after r j ≡ step op (byteAt L g) r j
+  unfolding inGroup byteAt
+  below-group r j l h = kept r j (only r ∙ (rw (lt-leb first r h))) (low (r * (L / 8) + j) (omega (arith, mul-le-mul-right (L / 8) h)))
+
+  above-group : (r j : ℕ) → first ≤ r → first + count ≤ r → byteAt L after r j ≡ step op (byteAt L g) r j
+  unfolding inGroup byteAt
+  above-group r j f h =
+      kept r j (only r ∙ (rw (le-leb first r f, le-ltb r (first + count) h))) (high (r * (L / 8) + j) (omega (arith, mul-le-mul-right (L / 8) h)))
+
+  in-group : (r j : ℕ) → j < L / 8 → first ≤ r → r < first + count → byteAt L after r j ≡ step op (byteAt L g) r j
+  unfolding inGroup byteAt
+  in-group r j l f h =
+      let at : first + (r - first) ≡ r = omega arith in
+      subst (λ k. getD after (k * (L / 8) + j) 0 ≡ written op (byteAt L g) k j) at (inside (r - first) j (omega arith) l)
+      ∙ sym (step-writes op (byteAt L g) r j (only r ∙ (rw (le-leb first r f, lt-ltb r (first + count) h))))
+
+  pub registers-stored : after ≡ fileOf L (step op (byteAt L g))
+  registers-stored =
       sym (fileOf-bytes L ok after same)
-      ∙ fileOf-cong L ok _ _ (λ r j h l. cases (eqb r d)
-      (λ e. subst (λ n. byteAt L after n j ≡ step op (byteAt L g) n j) (sym (eqb-true r d e)) (in-register j l))
-      (λ e.
-      let ne : r ≢ d = eqb-false r d e in
-      beside L d g after low high r j l ne ∙ sym (step-keeps op (byteAt L g) r j (only r ∙ ne-eqb r d ne))))
+      ∙ fileOf-cong L ok _ _ (λ r j h l. cases (ltb r first)
+      (λ b. below-group r j l (ltb-true r first b))
+      (λ b. cases (ltb r (first + count))
+      (λ e. in-group r j l (ltb-false r first b) (ltb-true r (first + count) e))
+      (λ e. above-group r j (ltb-false r first b) (ltb-false r (first + count) e))))
+
+-- one register
+one-register : (d r : ℕ) → eqb r d ≡ inGroup d 1 r
+unfolding inGroup
+one-register d r = cases (eqb r d)
+    (λ e. let h = eqb-true r d e in rw (e, le-leb d r (omega arith), lt-ltb r (d + 1) (omega arith)))
+    (λ e. let ne : r ≢ d = eqb-false r d e in cases (leb d r)
+    (λ b. let l = leb-true d r b in rw (e, b, le-ltb r (d + 1) (omega arith)))
+    (λ b. rw (e, b)))
+
+pub register-stored : (L : ℕ) → legal L ≡ true → (op : Op) (d : ℕ) → ((r : ℕ) → writes op r ≡ eqb r d) → (g after : List ℕ) → length after ≡ 4 * L →
+    ((j : ℕ) → j < L / 8 → getD after (d * (L / 8) + j) 0 ≡ written op (byteAt L g) d j) →
+    ((x : ℕ) → x < d * (L / 8) → getD after x 0 ≡ getD g x 0) →
+    ((x : ℕ) → d * (L / 8) + L / 8 ≤ x → getD after x 0 ≡ getD g x 0) → after ≡ fileOf L (step op (byteAt L g))
+register-stored L ok op d only g after same inside low high =
+    registers-stored L ok op d 1 (λ r. only r ∙ one-register d r) g after same
+    (λ r j h l.
+    let at : d ≡ d + r = omega arith in
+    subst (λ k. getD after (k * (L / 8) + j) 0 ≡ written op (byteAt L g) k j) at (inside j l))
+    low
+    (λ x h. high x (omega (arith, add-mul d 1 (L / 8))))

@@ -14,17 +14,19 @@ use Rattle.isa.specs.declared.types.Add.{Add}
 use Rattle.isa.specs.declared.types.Mul.{Mul}
 use Rattle.isa.specs.declared.types.MulIndexed.{MulIndexed}
 use Rattle.isa.specs.declared.types.ByElement.{ByElement}
+use Rattle.isa.specs.declared.types.Group.{Group}
+use Rattle.isa.specs.declared.types.MulGroup.{MulGroup}
 use Rattle.isa.specs.declared.types.Op.{Op}
 use Rattle.isa.specs.declared.types.Decoded.{Decoded}
 use Rattle.isa.specs.declared.types.Written.{Written}
 use Rattle.isa.specs.Field.{Row, fieldValue, fieldValues, rowWord}
-use Rattle.isa.specs.Table.{size, Q, i2, i1, ZmH, ZmS, scalarRow, vectorRow, elementRowFields, cadd, sqcadd, cmla, sqrdcmlah, cmlaH, cmlaS, sqrdcmlahH, sqrdcmlahS, sqrdmlahScalar, sqrdmlahVector, sqrdmlshScalar, sqrdmlshVector}
-use Rattle.isa.specs.Decode.{table, decodeOf, addOf, mulOf, indexedOf, elementOf, vectorOf, sizeOf, Reads, elementH, elementS}
-use Rattle.isa.specs.Encode.{encodeOf, writeChecks, indexedChecks, elementChecks, elementFieldsOf, formWord, halfOrSingle, bySize}
+use Rattle.isa.specs.Table.{size, Q, i2, i1, ZmH, ZmS, scalarRow, vectorRow, elementRowFields, cadd, sqcadd, cmla, sqrdcmlah, cmlaH, cmlaS, sqrdcmlahH, sqrdcmlahS, sqrdmlahScalar, sqrdmlahVector, sqrdmlshScalar, sqrdmlshVector, ZdnTwo, ZdnFour, sqdmulhTwo, sqdmulhFour}
+use Rattle.isa.specs.Decode.{table, decodeOf, addOf, mulOf, indexedOf, elementOf, vectorOf, sizeOf, Reads, elementH, elementS, groupOf}
+use Rattle.isa.specs.Encode.{encodeOf, writeChecks, indexedChecks, elementChecks, elementFieldsOf, formWord, halfOrSingle, bySize, groupChecks}
 use Rattle.isa.proofs.Fields.{sound, Of, Fit, of-written, of-lt, fields-written}
 use Rattle.isa.proofs.Table.{_⨾_, row-read, by-row}
 use Rattle.isa.proofs.Checks.{ChecksPassed, word-exact}
-use Rattle.isa.proofs.Families.{IndexedAt, registers-in, no-such, add-back, add-read, mul-back, mul-read, indexed-back, indexed-read, elementH-back, elementS-back, element-is, element-fits}
+use Rattle.isa.proofs.Families.{IndexedAt, registers-in, no-such, add-back, add-read, mul-back, mul-read, indexed-back, indexed-read, elementH-back, elementS-back, element-is, element-fits, GroupAt, group-back, group-read}
 
 same-op : (a b : Op) → Decoded.Operation a ≡ Decoded.Operation b → a ≡ b
 same-op a b e = cc
@@ -47,6 +49,13 @@ sqrdcmlah-at-H = record { has = refl; row = refl; limit = refl; last = refl; who
 
 sqrdcmlah-at-S : IndexedAt sqrdcmlahH sqrdcmlahS Size.S i1 ZmS (sqrdcmlahS .base)
 sqrdcmlah-at-S = record { has = refl; row = refl; limit = refl; last = refl; whole = refl }
+
+-- the rows of SQDMULH for each group
+sqdmulh-at-two : GroupAt sqdmulhTwo sqdmulhFour Group.Two ZdnTwo (sqdmulhTwo .base)
+sqdmulh-at-two = record { row = refl; room = refl; whole = refl }
+
+sqdmulh-at-four : GroupAt sqdmulhTwo sqdmulhFour Group.Four ZdnFour (sqdmulhFour .base)
+sqdmulh-at-four = record { row = refl; room = refl; whole = refl }
 
 -- ---- from a word to its operation and back
 
@@ -85,7 +94,9 @@ decode-encode w op =
     (λ e k. mlah (vectorOf (fieldValue Q w)) w (fieldValue size w) refl (vector (sqrdmlahScalar .base) (sqrdmlahVector .base) e) op k) ⨾
     (λ e k. mlah Form.Scalar w (fieldValue size w) refl e op k) ⨾
     (λ e k. mlsh (vectorOf (fieldValue Q w)) w (fieldValue size w) refl (vector (sqrdmlshScalar .base) (sqrdmlshVector .base) e) op k) ⨾
-    (λ e k. mlsh Form.Scalar w (fieldValue size w) refl e op k) ⨾ tt)
+    (λ e k. mlsh Form.Scalar w (fieldValue size w) refl e op k) ⨾
+    (λ e k. known w (Op.Sqdmulh (groupOf Group.Two ZdnTwo w)) op (group-back sqdmulhTwo sqdmulhFour Group.Two ZdnTwo (sqdmulhTwo .base) w sqdmulh-at-two e) k) ⨾
+    (λ e k. known w (Op.Sqdmulh (groupOf Group.Four ZdnFour w)) op (group-back sqdmulhTwo sqdmulhFour Group.Four ZdnFour (sqdmulhFour .base) w sqdmulh-at-four e) k) ⨾ tt)
     (λ none k. absurd (not-outside op k))
 
 -- ---- from an operation to its word and back
@@ -141,6 +152,14 @@ module _ (mk : ByElement → Op) (scalar vector w : ℕ)
   element-reads Form.Vector64 form word = vector-reads 0 (omega arith) word form
   element-reads Form.Vector128 form word = vector-reads 1 (omega arith) word form
 
+group-reads : (w : ℕ) (a : MulGroup) → ChecksPassed (groupChecks sqdmulhTwo sqdmulhFour a) w → (g : Group) → g ≡ a .group → Reads w (Op.Sqdmulh a)
+group-reads w a p Group.Two e =
+    let r = group-read sqdmulhTwo sqdmulhFour Group.Two ZdnTwo (sqdmulhTwo .base) w sqdmulh-at-two a e p in
+    (of-lt sqdmulhTwo refl w (r .0), row-read w 12 (r .0) ∙ ap (λ (x : MulGroup). Decoded.Operation (Op.Sqdmulh x)) (r .1))
+group-reads w a p Group.Four e =
+    let r = group-read sqdmulhTwo sqdmulhFour Group.Four ZdnFour (sqdmulhFour .base) w sqdmulh-at-four a e p in
+    (of-lt sqdmulhFour refl w (r .0), row-read w 13 (r .0) ∙ ap (λ (x : MulGroup). Decoded.Operation (Op.Sqdmulh x)) (r .1))
+
 passed-reads : (w : ℕ) (op : Op) → ChecksPassed (writeChecks op) w → Reads w op
 unfolding writeChecks
 passed-reads w (Op.Cadd a) p =
@@ -159,6 +178,7 @@ passed-reads w (Op.CmlaIndexed a) p = indexed-reads Op.CmlaIndexed cmlaH cmlaS (
 passed-reads w (Op.SqrdcmlahIndexed a) p = indexed-reads Op.SqrdcmlahIndexed sqrdcmlahH sqrdcmlahS (sqrdcmlahH .base) (sqrdcmlahS .base) w sqrdcmlah-at-H sqrdcmlah-at-S (row-read w 6) (row-read w 7) a p (a .size) refl
 passed-reads w (Op.Sqrdmlah a) p = element-reads Op.Sqrdmlah (sqrdmlahScalar .base) (sqrdmlahVector .base) w refl refl (row-read w 9) (row-read w 8) a p (a .form) refl (p .word)
 passed-reads w (Op.Sqrdmlsh a) p = element-reads Op.Sqrdmlsh (sqrdmlshScalar .base) (sqrdmlshVector .base) w refl refl (row-read w 11) (row-read w 10) a p (a .form) refl (p .word)
+passed-reads w (Op.Sqdmulh a) p = group-reads w a p (a .group) refl
 
 pub encode-decode : (op : Op) (w : ℕ) → encodeOf op ≡ Written.Word w → Reads w op
 encode-decode op w h = passed-reads w op (word-exact op w .0 h)

@@ -1,44 +1,34 @@
--- An operation by its destination and sources is the operation of the definitions. `written-made`, `made-of`: the bytes it writes. `writes-dest`: the register it
--- writes. `flag-made`: the flag it sets. `valid-below`: its registers exist. `made-local` and `clamped-local`: it reads 16 bytes of each alone.
+-- An operation by its destination and sources is the operation of the definitions. `written-made`, `made-of`: the bytes it writes.
+-- `flag-made`: the flag it sets. `valid-below`: its registers exist. `made-local` and `clamped-local`: it reads 16 bytes of each alone.
 -- Assumes nothing.
 use mathlib.Core.Path.{_≡_, refl, sym, ap, _∙_}
-use Prim.Native.Nat.{ℕ, _<_}
+use Prim.Native.Nat.{ℕ, _+_, _<_, _≤_}
+use native.Mathlib.Omega.{arith}
 use mathlib.Core.Bool.{Bool, true, false, _||_}
-use lib.Dec.{eqb}
-use Rattle.isa.specs.Register.{Bytes, Regs}
+use Rattle.isa.specs.Register.{Bytes, Regs, Group, groupCount}
 use Rattle.isa.specs.declared.types.Op.{Op}
-use Rattle.isa.specs.declared.types.Op.the-variants.{Cadd, Sqcadd, Cmla, Sqrdcmlah, CmlaIndexed, SqrdcmlahIndexed, Sqrdmlah, Sqrdmlsh}
-use Rattle.isa.specs.Meaning.{own, indexed, writes, written, flagAfter}
+use Rattle.isa.specs.declared.types.Op.the-variants.{Cadd, Sqcadd, Cmla, Sqrdcmlah, CmlaIndexed, SqrdcmlahIndexed, Sqrdmlah, Sqrdmlsh, Sqdmulh}
+use Rattle.isa.specs.Meaning.{own, indexed, written, flagAfter}
 use Rattle.isa.specs.Valid.{Valid}
-use Rattle.isa.proofs.Local.{Near, Fits, own-small, indexed-small, pair-local, lane-local, clamps-local}
+use Rattle.isa.proofs.Local.{Near, Fits, own-small, indexed-small, pair-local, lane-local, lane-wise-local, clamps-local}
 use Rattle.isa.specs.Sources.{destOf, firstOf, secondOf, made, clampsIn}
 
-pub written-made : (op : Op) (regs : Regs) (r : ℕ) → written op regs r ≡ made op (regs (destOf op)) (regs (firstOf op)) (regs (secondOf op))
+pub written-made : (op : Op) (regs : Regs) → written op regs (destOf op) ≡ made op (regs (destOf op)) (regs (firstOf op)) (regs (secondOf op))
 unfolding written made destOf firstOf secondOf
-written-made (Cadd o) regs r = refl
-written-made (Sqcadd o) regs r = refl
-written-made (Cmla o) regs r = refl
-written-made (Sqrdcmlah o) regs r = refl
-written-made (CmlaIndexed o) regs r = refl
-written-made (SqrdcmlahIndexed o) regs r = refl
-written-made (Sqrdmlah o) regs r = refl
-written-made (Sqrdmlsh o) regs r = refl
+written-made (Cadd o) regs = refl
+written-made (Sqcadd o) regs = refl
+written-made (Cmla o) regs = refl
+written-made (Sqrdcmlah o) regs = refl
+written-made (CmlaIndexed o) regs = refl
+written-made (SqrdcmlahIndexed o) regs = refl
+written-made (Sqrdmlah o) regs = refl
+written-made (Sqrdmlsh o) regs = refl
+written-made (Sqdmulh o) regs = refl
 
 -- of bytes that are those of its registers
 pub made-of : (op : Op) (regs : Regs) {c n m : Bytes} → c ≡ regs (destOf op) → n ≡ regs (firstOf op) → m ≡ regs (secondOf op) →
     (i : ℕ) → made op c n m i ≡ written op regs (destOf op) i
-made-of op regs c n m i = (λ t. made op (c t) (n t) (m t) i) ∙ sym (ap (λ f. f i) (written-made op regs (destOf op)))
-
-pub writes-dest : (op : Op) (r : ℕ) → writes op r ≡ eqb r (destOf op)
-unfolding writes destOf
-writes-dest (Cadd o) r = refl
-writes-dest (Sqcadd o) r = refl
-writes-dest (Cmla o) r = refl
-writes-dest (Sqrdcmlah o) r = refl
-writes-dest (CmlaIndexed o) r = refl
-writes-dest (SqrdcmlahIndexed o) r = refl
-writes-dest (Sqrdmlah o) r = refl
-writes-dest (Sqrdmlsh o) r = refl
+made-of op regs c n m i = (λ t. made op (c t) (n t) (m t) i) ∙ sym (ap (λ f. f i) (written-made op regs))
 
 pub or-false : (b : Bool) → b ≡ (b || false)
 or-false true = refl
@@ -55,11 +45,16 @@ flag-made (CmlaIndexed o) regs flag = or-false flag
 flag-made (SqrdcmlahIndexed o) regs flag = or-false flag
 flag-made (Sqrdmlah o) regs flag = refl
 flag-made (Sqrdmlsh o) regs flag = refl
+flag-made (Sqdmulh o) regs flag = or-false flag
 
 pub record Below (op : Op) : Type 0 where
   pub dest : destOf op < 32
   pub first : firstOf op < 32
   pub second : secondOf op < 32
+
+first-below : (g : Group) (d : ℕ) → d + groupCount g ≤ 32 → d < 32
+first-below Group.Two d h = omega arith
+first-below Group.Four d h = omega arith
 
 pub valid-below : (op : Op) → Valid op → Below op
 unfolding destOf firstOf secondOf
@@ -71,6 +66,7 @@ valid-below (CmlaIndexed o) v = record { dest = v .zda; first = v .zn; second = 
 valid-below (SqrdcmlahIndexed o) v = record { dest = v .zda; first = v .zn; second = v .zm }
 valid-below (Sqrdmlah o) v = record { dest = v .rd; first = v .rn; second = v .rm }
 valid-below (Sqrdmlsh o) v = record { dest = v .rd; first = v .rn; second = v .rm }
+valid-below (Sqdmulh o) v = let l = first-below (o .group) (o .zdn) (v .group) in record { dest = l; first = l; second = v .zm }
 
 -- ---- locality
 
@@ -88,6 +84,7 @@ module _ (c₁ n₁ m₁ c₂ n₂ m₂ : Bytes) (c : Near c₁ c₂) (n : Near 
       pair-local (o .size) _ _ _ _ _ _ c n m (indexed (o .size) (o .index)) (indexed-small (o .size) (o .index) fits) _
   made-local (Sqrdmlah o) fits = lane-local (o .size) _ _ _ _ _ _ c n m (o .form) (o .index) fits _
   made-local (Sqrdmlsh o) fits = lane-local (o .size) _ _ _ _ _ _ c n m (o .form) (o .index) fits _
+  made-local (Sqdmulh o) fits = lane-wise-local (o .size) _ _ _ _ _ c m
 
   pub clamped-local : (op : Op) → Fits op → clampsIn op c₁ n₁ m₁ ≡ clampsIn op c₂ n₂ m₂
   unfolding clampsIn Fits
@@ -99,3 +96,4 @@ module _ (c₁ n₁ m₁ c₂ n₂ m₂ : Bytes) (c : Near c₁ c₂) (n : Near 
   clamped-local (SqrdcmlahIndexed o) fits = refl
   clamped-local (Sqrdmlah o) fits = clamps-local (o .size) _ _ _ _ _ _ c n m (o .form) (o .index) fits _
   clamped-local (Sqrdmlsh o) fits = clamps-local (o .size) _ _ _ _ _ _ c n m (o .form) (o .index) fits _
+  clamped-local (Sqdmulh o) fits = refl

@@ -1,22 +1,25 @@
 -- `decoded-valid`: what a word decodes to is valid. Assumes nothing.
-use Prim.Native.Nat.{ℕ, suc, _<_}
+use Prim.Native.Nat.{ℕ, suc, _+_, _%_, _<_, _≤_}
 use mathlib.Core.Path.{_≡_}
 use mathlib.Core.Bool.{true}
 use native.Mathlib.Omega.{arith}
-use borrow.Author.Tests.{leb-true}
-use lib.Dec.{leb}
+use borrow.Author.Tests.{leb-true, eqb-true}
+use lib.Dec.{leb, eqb}
 use Rattle.isa.specs.declared.types.Size.{Size}
 use Rattle.isa.specs.declared.types.Add.{Add}
 use Rattle.isa.specs.declared.types.Mul.{Mul}
 use Rattle.isa.specs.declared.types.MulIndexed.{MulIndexed}
 use Rattle.isa.specs.declared.types.ByElement.{ByElement}
+use Rattle.isa.specs.declared.types.Group.{Group}
+use Rattle.isa.specs.declared.types.MulGroup.{MulGroup}
 use Rattle.isa.specs.declared.types.Op.{Op}
 use Rattle.isa.specs.declared.types.Decoded.{Decoded}
 use Rattle.isa.specs.Field.{Row}
-use Rattle.isa.specs.Table.{cadd, sqcadd, cmla, sqrdcmlah, cmlaH, cmlaS, sqrdcmlahH, sqrdcmlahS, sqrdmlahScalar, sqrdmlahVector, sqrdmlshScalar, sqrdmlshVector}
+use Rattle.isa.specs.Table.{cadd, sqcadd, cmla, sqrdcmlah, cmlaH, cmlaS, sqrdcmlahH, sqrdcmlahS, sqrdmlahScalar, sqrdmlahVector, sqrdmlshScalar, sqrdmlshVector, sqdmulhTwo, sqdmulhFour}
 use Rattle.isa.specs.Decode.{decodeOf}
-use Rattle.isa.specs.Encode.{writeChecks, addChecks, mulChecks, indexedChecks, elementChecks, bySize}
-use Rattle.isa.specs.Valid.{Valid, AddValid, MulValid, IndexedValid, ElementValid}
+use Rattle.isa.specs.Encode.{writeChecks, addChecks, mulChecks, indexedChecks, elementChecks, groupChecks, bySize}
+use Rattle.isa.specs.Register.{groupCount}
+use Rattle.isa.specs.Valid.{Valid, AddValid, MulValid, IndexedValid, ElementValid, GroupValid}
 use Rattle.isa.proofs.Fields.{and-left, and-right}
 use Rattle.isa.proofs.Checks.{ChecksPassed, word-exact}
 use Rattle.isa.proofs.Families.{registers-in}
@@ -56,6 +59,17 @@ element-valid scalar vector a w p =
     let r = registers-in (a .rm) (bySize 15 31 (a .size)) (a .rn) (a .rd) (p .registers) in
     record { size = p .size; rm = second-lt (a .rm) (a .size) 15 31 (omega arith) (omega arith) (r .second-in); rn = r .n-in; rd = r .d-in; index = index-lt (a .index) (a .size) 7 3 (p .index) }
 
+-- a group that starts at a multiple of its registers lies among the 32
+group-ends : (g : Group) (d : ℕ) → d ≤ 31 → eqb (d % groupCount g) 0 ≡ true → d + groupCount g ≤ 32
+group-ends Group.Two d h e = let z = eqb-true (d % 2) 0 e in omega arith
+group-ends Group.Four d h e = let z = eqb-true (d % 4) 0 e in omega arith
+
+pub group-valid : (two four : Row) (a : MulGroup) (w : ℕ) → ChecksPassed (groupChecks two four a) w → GroupValid a
+group-valid two four a w p = record {
+  zm = let l = leb-true (a .zm) 15 (and-left (leb (a .zm) 15) (leb (a .zdn) 31) (p .registers)) in omega arith;
+  group = group-ends (a .group) (a .zdn) (leb-true (a .zdn) 31 (and-right (leb (a .zm) 15) (leb (a .zdn) 31) (p .registers))) (p .start);
+}
+
 -- an operation that can be written is valid
 pub passed-valid : (op : Op) (w : ℕ) → ChecksPassed (writeChecks op) w → Valid op
 unfolding writeChecks
@@ -67,6 +81,7 @@ passed-valid (Op.CmlaIndexed a) w p = indexed-valid cmlaH cmlaS a w p
 passed-valid (Op.SqrdcmlahIndexed a) w p = indexed-valid sqrdcmlahH sqrdcmlahS a w p
 passed-valid (Op.Sqrdmlah a) w p = element-valid sqrdmlahScalar sqrdmlahVector a w p
 passed-valid (Op.Sqrdmlsh a) w p = element-valid sqrdmlshScalar sqrdmlshVector a w p
+passed-valid (Op.Sqdmulh a) w p = group-valid sqdmulhTwo sqdmulhFour a w p
 
 pub decoded-valid : (w : ℕ) (op : Op) → decodeOf w ≡ Decoded.Operation op → Valid op
 decoded-valid w op e = passed-valid op w (word-exact op w .0 (decode-encode w op e))

@@ -1,18 +1,18 @@
 -- What each operation does to the registers and to the flag QC. No vector length is in it.
 -- Assumes nothing.
 use Prim.Native.Nat.{ℕ, zero, suc, _+_, _*_, _-_, _/_, _%_}
-use mathlib.Core.Bool.{Bool, true, false, cond, _||_}
-use lib.Dec.{ltb, eqb}
+use mathlib.Core.Bool.{Bool, true, false, cond, _||_, _&&_}
+use lib.Dec.{leb, ltb, eqb}
 use lib.IntN.{ℤ, negℤ, _+ℤ_, _-ℤ_, _*ℤ_}
 use Rattle.integer.specs.Number.{clamp, rounded, signedBy, byteOf, End, endOf, changed}
-use Rattle.integer.specs.Lane.{saturated}
-use Rattle.isa.specs.Register.{Bytes, Regs, Size, bytes, bits, pairs, element, complex, Complex}
+use Rattle.integer.specs.Lane.{saturated, doubledHigh}
+use Rattle.isa.specs.Register.{Bytes, Regs, Size, bytes, bits, pairs, element, complex, Complex, groupCount}
 pub use Rattle.isa.specs.declared.types.Rotation.{Rotation}
 pub use Rattle.isa.specs.declared.types.Rotation.the-variants.{R0, R90, R180, R270}
 pub use Rattle.isa.specs.declared.types.Form.{Form}
 pub use Rattle.isa.specs.declared.types.Form.the-variants.{Scalar, Vector64, Vector128}
 pub use Rattle.isa.specs.declared.types.Op.{Op}
-pub use Rattle.isa.specs.declared.types.Op.the-variants.{Cadd, Sqcadd, Cmla, Sqrdcmlah, CmlaIndexed, SqrdcmlahIndexed, Sqrdmlah, Sqrdmlsh}
+pub use Rattle.isa.specs.declared.types.Op.the-variants.{Cadd, Sqcadd, Cmla, Sqrdcmlah, CmlaIndexed, SqrdcmlahIndexed, Sqrdmlah, Sqrdmlsh, Sqdmulh}
 
 -- ---- pairs
 
@@ -113,7 +113,17 @@ anyBelow (suc n) test = test n || anyBelow n test
 unfoldable pub laneClamps : Form → Size → ℕ → Bool → Bytes → Bytes → Bytes → Bool
 laneClamps f z index minus c n m = anyBelow (laneCount f z) (λ e. changed (laneEnd z index minus c n m e))
 
+-- ---- lane by lane
+
+-- The bytes of a result lane by lane: lane e is `result` of lane e of c and of lane e of m.
+unfoldable pub laneWise : Size → (ℤ → ℤ → ℤ) → Bytes → Bytes → Bytes
+laneWise z result c m j = byteOf (bits z) (result (element z c (j / bytes z)) (element z m (j / bytes z))) (j % bytes z)
+
 -- ---- operations
+
+-- Register r is one of `count` registers from the first on.
+unfoldable pub inGroup : ℕ → ℕ → ℕ → Bool
+inGroup first count r = leb first r && ltb r (first + count)
 
 -- The operation writes register r.
 unfoldable pub writes : Op → ℕ → Bool
@@ -125,6 +135,7 @@ writes (CmlaIndexed o) r = eqb r (o .zda)
 writes (SqrdcmlahIndexed o) r = eqb r (o .zda)
 writes (Sqrdmlah o) r = eqb r (o .rd)
 writes (Sqrdmlsh o) r = eqb r (o .rd)
+writes (Sqdmulh o) r = inGroup (o .zdn) (groupCount (o .group)) r
 
 -- The bytes that it writes into register r. All sources are read from the registers as they were before.
 unfoldable pub written : Op → Regs → ℕ → Bytes
@@ -136,12 +147,13 @@ written (CmlaIndexed o) regs r = pairBytes (o .size) (indexed (o .size) (o .inde
 written (SqrdcmlahIndexed o) regs r = pairBytes (o .size) (indexed (o .size) (o .index)) (sqrdcmlahOf (bits (o .size)) (o .rot)) (regs (o .zda)) (regs (o .zn)) (regs (o .zm))
 written (Sqrdmlah o) regs r = laneBytes (o .form) (o .size) (o .index) adds (regs (o .rd)) (regs (o .rn)) (regs (o .rm))
 written (Sqrdmlsh o) regs r = laneBytes (o .form) (o .size) (o .index) subtracts (regs (o .rd)) (regs (o .rn)) (regs (o .rm))
+written (Sqdmulh o) regs r = laneWise (o .size) (doubledHigh (bits (o .size))) (regs r) (regs (o .zm))
 
 -- The registers after an operation: every register that it does not write stays.
 unfoldable pub step : Op → Regs → Regs
 step op regs r j = cond (writes op r) (written op regs r j) (regs r j)
 
--- The flag after an operation: the SVE2 families leave it, the other two set it where a lane clamps.
+-- The flag after an operation: SQRDMLAH and SQRDMLSH set it where a lane clamps, the others leave it.
 unfoldable pub flagAfter : Op → Regs → Bool → Bool
 flagAfter (Cadd o) regs flag = flag
 flagAfter (Sqcadd o) regs flag = flag
@@ -151,6 +163,7 @@ flagAfter (CmlaIndexed o) regs flag = flag
 flagAfter (SqrdcmlahIndexed o) regs flag = flag
 flagAfter (Sqrdmlah o) regs flag = flag || laneClamps (o .form) (o .size) (o .index) adds (regs (o .rd)) (regs (o .rn)) (regs (o .rm))
 flagAfter (Sqrdmlsh o) regs flag = flag || laneClamps (o .form) (o .size) (o .index) subtracts (regs (o .rd)) (regs (o .rn)) (regs (o .rm))
+flagAfter (Sqdmulh o) regs flag = flag
 
 -- An operation of SQRDMLAH or SQRDMLSH.
 unfoldable pub advancedSimd : Op → Bool
@@ -162,3 +175,4 @@ advancedSimd (CmlaIndexed o) = false
 advancedSimd (SqrdcmlahIndexed o) = false
 advancedSimd (Sqrdmlah o) = true
 advancedSimd (Sqrdmlsh o) = true
+advancedSimd (Sqdmulh o) = false

@@ -1,4 +1,4 @@
--- The numbers of document 01, 'Numbers returned', and request A5's 11, for every case of every answer, and the values returned beside them.
+-- The numbers of document 01, 'Numbers returned', request A5's 11 and request A3's 14, for every case of every answer, and the values returned beside them.
 use Prim.Native.Nat.{ℕ}
 use mathlib.Core.List.{List, [], _∷_}
 use Rattle.isa.specs.Run.{State, Outcome}
@@ -23,13 +23,14 @@ decodedOperation (Decoded.Operation op) = op ∷ []
 decodedOperation Decoded.Reserved = []
 decodedOperation Decoded.Outside = []
 
--- ---- writing: 0 with the word, 7 to 10 with word 0
+-- ---- writing: 0 with the word, 7 to 10 and 14 with word 0
 
 unfoldable pub writtenNumber : Written → ℕ
 writtenNumber (Written.Word w) = 0
 writtenNumber Written.NoSize = 7
 writtenNumber Written.NoRotation = 8
 writtenNumber Written.RegisterLimit = 9
+writtenNumber Written.GroupStart = 14
 writtenNumber Written.IndexLimit = 10
 
 unfoldable pub writtenWord : Written → ℕ
@@ -37,6 +38,7 @@ writtenWord (Written.Word w) = w
 writtenWord Written.NoSize = 0
 writtenWord Written.NoRotation = 0
 writtenWord Written.RegisterLimit = 0
+writtenWord Written.GroupStart = 0
 writtenWord Written.IndexLimit = 0
 
 -- ---- a vector length and a file's size: nothing beside the number

@@ -5,6 +5,7 @@ use lib.IntN.{ℤ}
 use Rattle.integer.specs.Number.{signed}
 pub use Rattle.isa.specs.declared.types.Size.{Size}
 pub use Rattle.isa.specs.declared.types.Size.the-variants.{B, H, S, D}
+pub use Rattle.isa.specs.declared.types.Group.{Group}
 
 -- The bytes of a register, byte 0 first, and the registers. They have every number for an index.
 abbrev pub Bytes : Type 0
@@ -12,6 +13,14 @@ Bytes = ℕ → ℕ
 
 abbrev pub Regs : Type 0
 Regs = ℕ → Bytes
+
+abbrev pub byGroup : {A : Type 0} → A → A → Group → A
+byGroup two four Group.Two = two
+byGroup two four Group.Four = four
+
+-- The registers of a group.
+abbrev pub groupCount : Group → ℕ
+groupCount g = byGroup 2 4 g
 
 -- Bytes of an element.
 unfoldable pub bytes : Size → ℕ

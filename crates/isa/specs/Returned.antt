@@ -1,4 +1,4 @@
--- Document 01, 'Numbers returned', with request A5's 11: when each number is given, and what is returned and left beside it. A line holds where its
+-- Document 01, 'Numbers returned', with request A5's 11 and request A3's 14: when each number is given, and what is returned and left beside it. A line holds where its
 -- own condition does and no earlier check applies. What a definition answers, as numbers and values, is `RunsAs` and its like; the theorems say that it
 -- is one exactly where the line is: `call-exact`, `check-exact`, `register-exact`, `decode-exact` (proofs/Returned.antt), `encode-exact`
 -- (proofs/Checks.antt).
@@ -73,16 +73,18 @@ pub data RegisterReturns (L : ℕ) (file : List ℕ) (r : ℕ) : ℕ → List �
 abbrev pub AsksAs : ℕ → List ℕ → ℕ → ℕ → List ℕ → Type 0
 AsksAs L file r n part = (askedNumber (registerCheck L (length file) r) ≡ n) × (registerOf L file r ≡ part)
 
--- ---- writing: 7, 8, 9, 10; the number, and the word
+-- ---- writing: 7, 8, 9, 14, 10; the number, and the word
 
 pub data WriteReturns (op : Op) : ℕ → ℕ → Type 0 where
-  done : writeChecks op .size ≡ true → writeChecks op .rotation ≡ true → writeChecks op .registers ≡ true → writeChecks op .index ≡ true →
-      WriteReturns op 0 (writeChecks op .word)
+  done : writeChecks op .size ≡ true → writeChecks op .rotation ≡ true → writeChecks op .registers ≡ true → writeChecks op .start ≡ true →
+      writeChecks op .index ≡ true → WriteReturns op 0 (writeChecks op .word)
   no-size : writeChecks op .size ≡ false → WriteReturns op 7 0
   no-rotation : writeChecks op .size ≡ true → writeChecks op .rotation ≡ false → WriteReturns op 8 0
   register-limit : writeChecks op .size ≡ true → writeChecks op .rotation ≡ true → writeChecks op .registers ≡ false → WriteReturns op 9 0
-  index-limit : writeChecks op .size ≡ true → writeChecks op .rotation ≡ true → writeChecks op .registers ≡ true → writeChecks op .index ≡ false →
-      WriteReturns op 10 0
+  group-start : writeChecks op .size ≡ true → writeChecks op .rotation ≡ true → writeChecks op .registers ≡ true → writeChecks op .start ≡ false →
+      WriteReturns op 14 0
+  index-limit : writeChecks op .size ≡ true → writeChecks op .rotation ≡ true → writeChecks op .registers ≡ true → writeChecks op .start ≡ true →
+      writeChecks op .index ≡ false → WriteReturns op 10 0
 
 abbrev pub WritesAs : Op → ℕ → ℕ → Type 0
 WritesAs op n w = (writtenNumber (encodeOf op) ≡ n) × (writtenWord (encodeOf op) ≡ w)

@@ -91,3 +91,7 @@ pub record BytesOfLanes (z : Size) (r : List ℕ) (s : List ℤ) : Type 0 where
 -- s holds the numbers of the bytes b, four by four, lowest byte first.
 pub record WordsOf (s : List ℕ) (b : Bytes) : Type 0 where
   pub at : (k : ℕ) → k < 4 → getD s k 0 ≡ little b (4 * k) 4
+
+-- Lane e of s is f of lane e of x and of lane e of t.
+pub record Paired (z : Size) (f : ℤ → ℤ → ℤ) (s x t : List ℤ) : Type 0 where
+  pub at : (e : ℕ) → e < 2 * pairs z → lane s e ≡ f (lane x e) (lane t e)

@@ -1,8 +1,8 @@
 // One lane of 16 bits, worked out exactly in 32.
 ghost use mathlib.Core.Path.{_≡_};
 ghost use lib.IntN.{pos, _+ℤ_, _*ℤ_};
-ghost use Rattle.integer.specs.Number.{rounded, clamp, clamps, wrap, signedBy};
-ghost use Rattle.integer.specs.Lane.{saturated, wrapped, clamped, SumIn};
+ghost use Rattle.integer.specs.Number.{rounded, upperHalf, clamp, clamps, wrap, signedBy};
+ghost use Rattle.integer.specs.Lane.{saturated, wrapped, clamped, doubledHigh, SumIn};
 use common::bits16::of_bits;
 use common::bits32::to_bits;
 use common::product16::product;
@@ -82,4 +82,20 @@ pub fn sat(c: i16, b: i16, minus: bool) -> i16
     ensures { λ r. ⌜ r ≡ clamped 16 c (signedBy minus b) ⌝ }
 {
     narrow(plus_minus(c as i32, b as i32, minus))
+}
+
+// The upper half of the doubled product of a and b. Nothing is clamped.
+fn high(a: i16, b: i16) -> i32
+    ensures { λ r. ⌜ r ≡ upperHalf 16 (a *ℤ b) ⌝ }
+{
+    product(a, b) >> 15
+}
+
+// The same, clamped. Only the lowest by the lowest is past the range, by one, and only then are the low bits those of the lowest.
+// A test of them is one of vectors of 16 bits; of a clamp in 32 bits the compiler makes no vectors.
+pub fn doubled_high(a: i16, b: i16) -> i16
+    ensures { λ r. ⌜ r ≡ doubledHigh 16 a b ⌝ }
+{
+    let r = cut(high(a, b));
+    if r < -32767 { 32767 } else { r }
 }

@@ -2,11 +2,12 @@
 ghost use mathlib.Core.Path.{_≡_};
 ghost use Prim.Native.Nat.{_%_, _≤_};
 ghost use Rattle.integer.specs.Number.{clamps};
-ghost use Rattle.integer.specs.Lane.{saturated, wrapped, clamped};
+ghost use Rattle.integer.specs.Lane.{saturated, wrapped, clamped, doubledHigh};
 ghost use Rattle.isa.specs.Meaning.{anyBelow};
 ghost use Rattle.isa.specs.Segment.{bytesOf};
-ghost use Rattle.isa.specs.Stage.{LanesOf, Taken, Multiplied, Added, BytesOfLanes, firstPlace, secondPlace, indexPlace, Summed, Clamped, lane};
+ghost use Rattle.isa.specs.Stage.{LanesOf, Taken, Multiplied, Added, Paired, BytesOfLanes, firstPlace, secondPlace, indexPlace, Summed, Clamped, lane};
 use crate::lane::add;
+use crate::lane::doubled_high;
 use crate::lane::mla;
 use crate::lane::narrow;
 use crate::lane::overflows;
@@ -151,4 +152,15 @@ pub fn any_overflow(s: [i32; 8]) -> bool
         any = if overflows(s[e]) { true } else { any };
     }
     any
+}
+
+// Upper halves of doubled products, clamped.
+pub fn high_halves(x: [i16; 8], z: [i16; 8]) -> [i16; 8]
+    ensures { λ r. ⌜ Paired Size.H (doubledHigh 16) r x z ⌝ }
+{
+    let mut r = [0i16; 8];
+    for e in 0..8 {
+        r[e] = doubled_high(x[e], z[e]);
+    }
+    r
 }

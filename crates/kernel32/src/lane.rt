@@ -1,8 +1,8 @@
 // One lane of 32 bits, worked out exactly in 64.
 ghost use mathlib.Core.Path.{_≡_};
 ghost use lib.IntN.{pos, _+ℤ_, _*ℤ_};
-ghost use Rattle.integer.specs.Number.{rounded, clamp, clamps, wrap, signedBy};
-ghost use Rattle.integer.specs.Lane.{saturated, wrapped, clamped, SumIn, Toward};
+ghost use Rattle.integer.specs.Number.{rounded, upperHalf, clamp, clamps, wrap, signedBy};
+ghost use Rattle.integer.specs.Lane.{saturated, wrapped, clamped, doubledHigh, SumIn, Toward};
 use common::bits32::of_bits;
 use common::bits64::to_bits;
 use common::product32::product;
@@ -84,4 +84,20 @@ pub fn sat(c: i32, b: i32, minus: bool) -> i32
     ensures { λ r. ⌜ r ≡ clamped 32 c (signedBy minus b) ⌝ }
 {
     clamp_toward(plus_minus(c as i64, b as i64, minus), c as i64)
+}
+
+// The upper half of the doubled product of a and b. Nothing is clamped.
+fn high(a: i32, b: i32) -> i64
+    ensures { λ r. ⌜ r ≡ upperHalf 32 (a *ℤ b) ⌝ }
+{
+    product(a, b) >> 31
+}
+
+// The same, clamped. Only the lowest by the lowest is past the range, by one, and only then are the low bits those of the lowest.
+// A test of them takes fewer instructions than a clamp in 64 bits.
+pub fn doubled_high(a: i32, b: i32) -> i32
+    ensures { λ r. ⌜ r ≡ doubledHigh 32 a b ⌝ }
+{
+    let r = cut(high(a, b));
+    if r < -2147483647 { 2147483647 } else { r }
 }

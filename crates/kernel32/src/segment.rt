@@ -2,12 +2,13 @@
 ghost use mathlib.Core.Path.{_≡_};
 ghost use Prim.Native.Nat.{_%_, _≤_};
 ghost use Rattle.integer.specs.Number.{clamps};
-ghost use Rattle.integer.specs.Lane.{saturated, wrapped, clamped};
+ghost use Rattle.integer.specs.Lane.{saturated, wrapped, clamped, doubledHigh};
 ghost use Rattle.isa.specs.Meaning.{anyBelow};
 ghost use Rattle.isa.specs.Segment.{bytesOf};
-ghost use Rattle.isa.specs.Stage.{LanesOf, Taken, Multiplied, Added, BytesOfLanes, firstPlace, secondPlace, indexPlace, Summed, Towards, Clamped, lane};
+ghost use Rattle.isa.specs.Stage.{LanesOf, Taken, Multiplied, Added, Paired, BytesOfLanes, firstPlace, secondPlace, indexPlace, Summed, Towards, Clamped, lane};
 use crate::lane::add;
 use crate::lane::clamp_toward;
+use crate::lane::doubled_high;
 use crate::lane::mla;
 use crate::lane::overflows;
 use crate::lane::round;
@@ -157,4 +158,15 @@ pub fn any_overflow(s: [i64; 4]) -> bool
         any = if overflows(s[e]) { true } else { any };
     }
     any
+}
+
+// Upper halves of doubled products, clamped.
+pub fn high_halves(x: [i32; 4], z: [i32; 4]) -> [i32; 4]
+    ensures { λ r. ⌜ Paired Size.S (doubledHigh 32) r x z ⌝ }
+{
+    let mut r = [0i32; 4];
+    for e in 0..4 {
+        r[e] = doubled_high(x[e], z[e]);
+    }
+    r
 }

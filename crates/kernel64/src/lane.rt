@@ -1,9 +1,9 @@
 // One lane of 64 bits. A sum is kept as twice a word plus a bit, so that it is exact before the clamp.
 ghost use mathlib.Core.Path.{_≡_};
-ghost use Prim.Native.Nat.{_<_};
+ghost use Prim.Native.Nat.{_*_, _/_, _%_, _^_, _<_};
 ghost use lib.IntN.{pos, _+ℤ_, _*ℤ_};
-ghost use Rattle.integer.specs.Number.{modZ, clamp, signedBy};
-ghost use Rattle.integer.specs.Lane.{saturated, wrapped, clamped};
+ghost use Rattle.integer.specs.Number.{modZ, clamp, upperHalf, pattern, signedBy};
+ghost use Rattle.integer.specs.Lane.{saturated, wrapped, clamped, doubledHigh};
 ghost use Rattle.kernel64.specs.Wide.{wideOf, WideIn, NarrowIn, sumHigh};
 use crate::product::product;
 use crate::product::wide_product;
@@ -98,4 +98,42 @@ pub fn mla(c: i64, a: i64, b: i64, minus: bool) -> i64
 {
     let m = wide_product(to_bits(a), to_bits(b));
     add(c, of_bits(m.lo), minus)
+}
+
+// a with the bias 2^63, so that it has no sign.
+fn biased(a: i64) -> u64
+    ensures { λ r. ⌜ pos r ≡ a +ℤ pos (2 ^ 63) ⌝ }
+{
+    std::num::wrapping_add_u64(to_bits(a), 9223372036854775808)
+}
+
+// The product of two words, divided by 2^63, modulo 2^64.
+fn doubled_word(u: u64, v: u64) -> u64
+    ensures { λ r. ⌜ r ≡ u * v / 2 ^ 63 % 2 ^ 64 ⌝ }
+{
+    let p = wide_product(u, v);
+    std::num::wrapping_add_u64(p.hi << 1, p.lo / 9223372036854775808)
+}
+
+// The bits of the upper half of the doubled product of a and b: the upper half of their product biased, less both, and the bias, modulo 2^64.
+// `product`, which puts the sign on a product of sizes, takes twice as many instructions.
+fn high_bits(a: i64, b: i64) -> u64
+    ensures { λ r. ⌜ r ≡ pattern 64 (upperHalf 64 (a *ℤ b)) ⌝ }
+{
+    let u = biased(a);
+    let v = biased(b);
+    let t = std::num::wrapping_sub_u64(doubled_word(u, v), u);
+    std::num::wrapping_add_u64(std::num::wrapping_sub_u64(t, v), 9223372036854775808)
+}
+
+// The same, clamped. Only the lowest by the lowest is past the range, by one, and only then are the bits those of the lowest.
+pub fn doubled_high(a: i64, b: i64) -> i64
+    ensures { λ r. ⌜ r ≡ doubledHigh 64 a b ⌝ }
+{
+    let r = of_bits(high_bits(a, b));
+    if r < -9223372036854775807 {
+        9223372036854775807
+    } else {
+        r
+    }
 }

@@ -4,12 +4,14 @@
 // Inner: lent to the crates of loops over registers, which have looked at the rotation.
 ghost use mathlib.Core.Path.{_≡_};
 ghost use mathlib.Core.Bool.{true, false};
+ghost use Rattle.integer.specs.Lane.{doubledHigh};
 ghost use Rattle.isa.specs.Meaning.{own, caddOf, sqcaddOf, cmlaOf, sqrdcmlahOf};
-ghost use Rattle.isa.specs.Segment.{Segment};
+ghost use Rattle.isa.specs.Segment.{Segment, LaneWise};
 ghost use Rattle.isa.specs.Stage.{crossed};
 use crate::segment::adds;
 use crate::segment::bytes;
 use crate::segment::doubled;
+use crate::segment::high_halves;
 use crate::segment::lanes;
 use crate::segment::mlas;
 use crate::segment::rounds;
@@ -105,4 +107,11 @@ pub fn sqrdcmlah(c: [u8; 16], n: [u8; 16], m: [u8; 16], rot: Rotation) -> [u8; 1
     } else {
         sqrdcmlah_straight(c, n, m, rot)
     }
+}
+
+// SQDMULH on one segment, lane by lane.
+pub fn sqdmulh(c: [u8; 16], m: [u8; 16]) -> [u8; 16]
+    ensures { λ r. ⌜ LaneWise Size.B (doubledHigh 8) r c m ⌝ }
+{
+    bytes(high_halves(lanes(c), lanes(m)))
 }

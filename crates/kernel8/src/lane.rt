@@ -1,8 +1,8 @@
 // One lane of 8 bits, worked out exactly in 16.
 ghost use mathlib.Core.Path.{_≡_};
 ghost use lib.IntN.{pos, _+ℤ_, _*ℤ_};
-ghost use Rattle.integer.specs.Number.{rounded, clamp, wrap, signedBy};
-ghost use Rattle.integer.specs.Lane.{saturated, wrapped, clamped, SumIn};
+ghost use Rattle.integer.specs.Number.{rounded, upperHalf, clamp, wrap, signedBy};
+ghost use Rattle.integer.specs.Lane.{saturated, wrapped, clamped, doubledHigh, SumIn};
 use common::bits8::of_bits;
 use common::bits16::to_bits;
 use common::product8::product;
@@ -75,4 +75,18 @@ pub fn sat(c: i8, b: i8, minus: bool) -> i8
     ensures { λ r. ⌜ r ≡ clamped 8 c (signedBy minus b) ⌝ }
 {
     narrow(plus_minus(c as i16, b as i16, minus))
+}
+
+// The upper half of the doubled product of a and b. Nothing is clamped.
+fn high(a: i8, b: i8) -> i16
+    ensures { λ r. ⌜ r ≡ upperHalf 8 (a *ℤ b) ⌝ }
+{
+    product(a, b) >> 7
+}
+
+// The same, clamped.
+pub fn doubled_high(a: i8, b: i8) -> i8
+    ensures { λ r. ⌜ r ≡ doubledHigh 8 a b ⌝ }
+{
+    narrow(high(a, b))
 }

@@ -1,9 +1,10 @@
 // The stages of a kernel: bytes to lanes, each lane's sources, one loop over the lanes, lanes to bytes.
 ghost use mathlib.Core.Path.{_≡_};
-ghost use Rattle.integer.specs.Lane.{saturated, wrapped, clamped};
+ghost use Rattle.integer.specs.Lane.{saturated, wrapped, clamped, doubledHigh};
 ghost use Rattle.isa.specs.Segment.{bytesOf};
-ghost use Rattle.isa.specs.Stage.{LanesOf, Taken, Multiplied, Added, BytesOfLanes, firstPlace, secondPlace};
+ghost use Rattle.isa.specs.Stage.{LanesOf, Taken, Multiplied, Added, Paired, BytesOfLanes, firstPlace, secondPlace};
 use crate::lane::add;
+use crate::lane::doubled_high;
 use crate::lane::mla;
 use crate::lane::round;
 use crate::lane::sat;
@@ -95,6 +96,17 @@ pub fn sats(x: [i8; 16], z: [i8; 16], real: bool, imaginary: bool) -> [i8; 16]
     let mut r = z;
     for e in 0..16 {
         r[e] = sat(x[e], r[e], minus_at(real, imaginary, e));
+    }
+    r
+}
+
+// Upper halves of doubled products, clamped.
+pub fn high_halves(x: [i8; 16], z: [i8; 16]) -> [i8; 16]
+    ensures { λ r. ⌜ Paired Size.B (doubledHigh 8) r x z ⌝ }
+{
+    let mut r = [0i8; 16];
+    for e in 0..16 {
+        r[e] = doubled_high(x[e], z[e]);
     }
     r
 }

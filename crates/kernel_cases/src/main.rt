@@ -1,5 +1,5 @@
 // Works the stored cases of standard input with the kernels, and prints the 16 bytes that come of each.
-// A case has 52 bytes: family, size, quarter turns (by element: form) and index; then 16 bytes each of the addend c, the first source n and the second source m. CADD and SQCADD use no n.
+// A case has 52 bytes: family, size, quarter turns (by element: form) and index; then 16 bytes each of the addend c, the first source n and the second source m. CADD, SQCADD and SQDMULH use no n.
 ghost use mathlib.Core.Path.{_≡_};
 ghost use mathlib.Core.Bool.{true};
 ghost use Rattle.isa.specs.Stage.{crossed};
@@ -90,6 +90,15 @@ fn sqrdcmlah(size: Size, rot: Rotation, c: [u8; 16], n: [u8; 16], m: [u8; 16]) -
         Size::H => kernel16::kernel::sqrdcmlah(c, n, m, rot),
         Size::S => kernel32::kernel::sqrdcmlah(c, n, m, rot),
         Size::D => kernel64::kernel::sqrdcmlah(c, n, m, rot),
+    }
+}
+
+fn sqdmulh(size: Size, c: [u8; 16], m: [u8; 16]) -> [u8; 16] {
+    match size {
+        Size::B => kernel8::kernel::sqdmulh(c, m),
+        Size::H => kernel16::kernel::sqdmulh(c, m),
+        Size::S => kernel32::kernel::sqdmulh(c, m),
+        Size::D => kernel64::kernel::sqdmulh(c, m),
     }
 }
 
@@ -192,7 +201,8 @@ fn print_case(head: [u8; 4], c: [u8; 16], n: [u8; 16], m: [u8; 16]) {
         4 => print_bytes(sqrdcmlah(size, rot, c, n, m)),
         5 => print_bytes(sqrdcmlah_indexed(size, rot, index, c, n, m)),
         6 => print_saturated(sqrdmlah(size, form, index, c, n, m)),
-        _ => print_saturated(sqrdmlsh(size, form, index, c, n, m)),
+        7 => print_saturated(sqrdmlsh(size, form, index, c, n, m)),
+        _ => print_bytes(sqdmulh(size, c, m)),
     }
     io::write_all(STDOUT_FILENO, b"\n");
 }

@@ -6,10 +6,10 @@ use lib.ListN.{length, getD, take}
 use Rattle.grammar.specs.Follow.{Fixed}
 use Rattle.grammar.specs.Grammar.{templates, itemOf}
 use Rattle.letters.specs.declared.templates.Template.{Template}
-use Rattle.letters.specs.Templates.{IsTemplate}
+use Rattle.letters.specs.Templates.{templateMax, IsTemplate}
 
 pub arm : {pattern k n q : ℕ} {t : Template} {b : List ℕ} → pattern ≡ k → (t .bytes ≡ b) × (t .size ≡ n) × (t .mark ≡ q)
-    → map itemOf (take n b) ≡ getD templates k [] → n ≤ 33 → length b ≡ 33 → q < 33 → Fixed (getD templates k []) q (getD b q 0) → IsTemplate pattern t
+    → map itemOf (take n b) ≡ getD templates k [] → n ≤ templateMax → length b ≡ templateMax → q < templateMax → Fixed (getD templates k []) q (getD b q 0) → IsTemplate pattern t
 arm {pattern} {k} {n} {q} {t} {b} e f is short all low fixed =
     rw e
     (record {

@@ -7,10 +7,14 @@ use Rattle.grammar.specs.Follow.{Fixed}
 use Rattle.grammar.specs.Grammar.{templates, itemOf}
 use Rattle.letters.specs.declared.templates.Template.{Template}
 
+-- the bytes of the longest template
+abbrev pub templateMax : ℕ
+templateMax = 42
+
 pub record IsTemplate (pattern : ℕ) (t : Template) : Type 0 where
   pub items : map itemOf (take (t .size) (t .bytes)) ≡ getD templates pattern []
-  pub short : t .size ≤ 33
-  pub room : length (t .bytes) ≡ 33
+  pub short : t .size ≤ templateMax
+  pub room : length (t .bytes) ≡ templateMax
   -- every line of the pattern has the mark's byte at its place
-  pub inside : t .mark < 33
+  pub inside : t .mark < templateMax
   pub mark : Fixed (getD templates pattern []) (t .mark) (getD (t .bytes) (t .mark) 0)

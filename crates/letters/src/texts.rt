@@ -1,82 +1,85 @@
 // The texts that the letters of a template stand for, and the value that a text gives a letter.
 ghost use mathlib.Core.Path.{_≡_};
-ghost use mathlib.Core.Logic.{_≢_};
 ghost use mathlib.Core.List.{[], _∷_};
-ghost use Prim.Native.Nat.{_+_, _*_, _<_, _≤_};
+ghost use Prim.Native.Nat.{ℕ, _+_, _*_, _/_, _%_, _^_, _<_, _≤_};
 ghost use lib.ListN.{length, drop, getD};
 ghost use Rattle.grammar.specs.Template.{textOf, count};
-ghost use Rattle.grammar.specs.Follow.{commonPrefix, guess, guessNumber, valueOf};
-ghost use Rattle.grammar.specs.Grammar.{progression, alphabet, unused};
-ghost use Rattle.grammar.specs.Packed.{unpack, textBytes, firsts, counts, packedTexts, digitOf};
+ghost use Rattle.grammar.specs.Follow.{commonPrefix, guessText, guess, valueOf};
+ghost use Rattle.grammar.specs.Grammar.{alphabet, unused, letterCount, slotOf};
+ghost use Rattle.grammar.specs.Packed.{unpack, textBytes, rows, RowOf, Row, packedTexts, numbersOf, textsOf, digitOf, placed, placedTwo};
+
+// Letters that there are, the value of one that has none yet, and the texts of numbers.
+pub const LETTERS: usize = 26;
+
+pub const UNSET: u8 = 255;
+
+const NUMBERS: u8 = 32;
 
 // The tables are matches: a constant array is built anew wherever it is read.
 
-// Of each letter: the place of its first text, and how many it has.
-fn first_of(x: usize) -> usize
-    requires { ⌜ x < 26 ⌝ }
-    ensures { λ r. ⌜ r ≡ getD firsts x 0 ⌝ }
+// Of each letter, a byte each from the lowest on: the place of its first text, two to which power its texts stand apart, and how many it has.
+// Those of numbers begin below 32.
+pub fn row_of(x: usize) -> u32
+    requires { ⌜ x < letterCount ⌝ }
+    ensures { λ r. ⌜ r ≡ getD rows x 0 ⌝ }
 {
     match x {
-        0 => 0,
-        1 => 0,
-        2 => 0,
-        3 => 0,
-        4 => 0,
-        5 => 0,
-        6 => 0,
-        7 => 0,
-        8 => 0,
-        9 => 0,
-        10 => 0,
-        11 => 0,
-        12 => 0,
-        13 => 0,
-        14 => 0,
-        15 => 44,
-        16 => 42,
-        17 => 32,
-        18 => 36,
-        19 => 38,
-        20 => 0,
-        21 => 0,
-        22 => 0,
-        23 => 0,
-        24 => 0,
-        _ => 0,
+        0 => 0x10_0100,
+        1 => 0x10_0101,
+        2 => 0x01_0000,
+        3 => 0x20_0000,
+        4 => 0x08_0200,
+        5 => 0x08_0203,
+        6 => 0x01_0000,
+        7 => 0x10_0000,
+        8 => 0x08_0000,
+        9 => 0x04_0000,
+        10 => 0x02_0000,
+        11 => 0x08_0000,
+        12 => 0x20_0000,
+        13 => 0x20_0000,
+        14 => 0x01_0000,
+        15 => 0x02_002c,
+        16 => 0x02_002a,
+        17 => 0x04_0020,
+        18 => 0x02_0024,
+        19 => 0x04_0026,
+        20 => 0x01_0000,
+        21 => 0x01_0000,
+        22 => 0x01_0000,
+        23 => 0x01_0000,
+        24 => 0x01_0000,
+        _ => 0x01_0000,
     }
 }
 
-fn count_of(x: usize) -> u8
-    requires { ⌜ x < 26 ⌝ }
-    ensures { λ r. ⌜ r ≡ getD counts x 0 ⌝ }
+fn first_in(row: u32) -> u8
+    ensures { λ r. ⌜ r ≡ row % 256 ⌝ }
+{
+    (row % 256) as u8
+}
+
+fn shift_in(row: u32) -> u32
+    ensures { λ r. ⌜ r ≡ row / 256 % 256 ⌝ }
+{
+    row / 256 % 256
+}
+
+fn count_in(row: u32) -> u8
+    ensures { λ r. ⌜ r ≡ row / 65536 % 256 ⌝ }
+{
+    (row / 65536 % 256) as u8
+}
+
+// A letter's slot. By itself: out of the row it is slower.
+pub fn slot_of(x: usize) -> usize
+    requires { ⌜ x < letterCount ⌝ }
+    ensures { λ r. ⌜ (r ≡ slotOf x) × (r < letterCount) ⌝ }
 {
     match x {
-        0 => 1,
-        1 => 1,
-        2 => 1,
-        3 => 32,
-        4 => 1,
-        5 => 1,
-        6 => 1,
-        7 => 16,
-        8 => 8,
-        9 => 4,
-        10 => 2,
-        11 => 8,
-        12 => 32,
-        13 => 32,
-        14 => 1,
-        15 => 2,
-        16 => 2,
-        17 => 4,
-        18 => 2,
-        19 => 4,
-        20 => 1,
-        21 => 1,
-        22 => 1,
-        23 => 1,
-        24 => 1,
-        _ => 1,
+        1 => 0,
+        5 => 4,
+        _ => x,
     }
 }
 
@@ -135,12 +138,20 @@ fn text_at(i: usize) -> u32
     }
 }
 
+// The text of a value, by the letter's row.
+pub fn text_in(row: u32, v: u8) -> u32
+    requires { ⌜ Row row × (v < row / 65536 % 256) ⌝ }
+    ensures { λ r. ⌜ r ≡ getD packedTexts (row % 256 + v * 2 ^ (row / 256 % 256)) 0 ⌝ }
+{
+    text_at(first_in(row) as usize + ((v as usize) << shift_in(row)))
+}
+
 // The text of a letter's value.
 pub fn text_of(x: usize, v: u8) -> u32
-    requires { ⌜ (x < 26) × (v < count (getD alphabet x unused)) ⌝ }
+    requires { ⌜ (x < letterCount) × (v < count (getD alphabet x unused)) ⌝ }
     ensures { λ r. ⌜ textBytes r ≡ textOf (getD alphabet x unused) v ⌝ }
 {
-    text_at(first_of(x) + v as usize)
+    text_in(row_of(x), v)
 }
 
 // Ten times a digit.
@@ -170,64 +181,93 @@ fn digit_at(s: &[u8], at: usize) -> u8
     b - b'0'
 }
 
-// The number below n that a text has from a place on; 0 where there is none.
-fn number_at(s: &[u8], at: usize, n: u8) -> u8
-    requires { ⌜ (1 ≤ n) × (at < length (now s)) ⌝ }
-    ensures { λ r. ⌜ r ≡ guessNumber (progression 0 1 n) (drop at (now (s .entry))) ⌝ }
-{
-    let f = digit_at(s, at);
-    if f == 0 {
-        return 0;
-    }
-    if n <= f {
-        return 0;
-    }
-    if f == 10 {
-        return 0;
-    }
-    let e = digit_at(s, at + 1);
-    if e == 10 {
-        return f;
-    }
-    let v = ten_times(f) + e;
-    if v < n {
-        return v;
-    }
-    f
-}
-
 pub fn wide(x: u8) -> u32
     ensures { λ r. ⌜ r ≡ x ⌝ }
 {
     x as u32
 }
 
-// The packed of a letter that begins with a byte, by its place; 0 where there is none.
-fn starting_with(x: usize, b: u8) -> u8
-    requires { ⌜ (x < 26) × (getD firsts x 0 ≢ 0) ⌝ }
-    ensures { λ r. ⌜ r ≡ guess (getD alphabet x unused) (b ∷ []) ⌝ }
+// The first of a letter's texts that begins with a byte, by its place; 0 where there is none.
+fn starting_with(row: u32, b: u8) -> u8
+    requires { ⌜ Row row ⌝ }
+    ensures { λ r. ⌜ ((x : ℕ) → RowOf x row → r ≡ guessText (textsOf (getD alphabet x unused)) (b ∷ [])) ⌝ }
 {
-    let first = first_of(x);
-    for v in 0..count_of(x) {
-        if text_at(first + v as usize) % 256 == wide(b) {
+    for v in 0..count_in(row) {
+        if text_in(row, v) % 256 == wide(b) {
             return v;
         }
     }
     0
 }
 
+// The place of a number among a letter's, which stand a step apart; 255 where it is not there.
+fn place_of(row: u32, m: u8) -> u8
+    requires { ⌜ Row row × (row % 256 < 32) ⌝ }
+    ensures { λ r. ⌜ ((x : ℕ) → RowOf x row → r ≡ placed m (numbersOf (getD alphabet x unused))) ⌝ }
+{
+    let first = first_in(row);
+    if m < first {
+        return UNSET;
+    }
+    let far = m - first;
+    let shift = shift_in(row);
+    let v = far >> shift;
+    if v << shift != far {
+        return UNSET;
+    }
+    if count_in(row) <= v {
+        return UNSET;
+    }
+    v
+}
+
+// The place of the number of two digits that a digit and a text make; 255 where there is none.
+fn two_digits(row: u32, f: u8, s: &[u8], at: usize) -> u8
+    requires { ⌜ Row row × (row % 256 < 32) × (f ≤ 9) ⌝ }
+    ensures { λ r. ⌜ ((x : ℕ) → RowOf x row → r ≡ placedTwo (numbersOf (getD alphabet x unused)) f (drop at (now (s .entry)))) ⌝ }
+{
+    if f == 0 {
+        return UNSET;
+    }
+    let e = digit_at(s, at);
+    if e == 10 {
+        return UNSET;
+    }
+    place_of(row, ten_times(f) + e)
+}
+
+// The number of a letter that a text has from a place on: of two digits, of one, or one that begins with the digit; else the first.
+fn number_at(row: u32, s: &[u8], at: usize) -> u8
+    requires { ⌜ Row row × (row % 256 < 32) × (at < length (now s)) ⌝ }
+    ensures { λ r. ⌜ ((x : ℕ) → RowOf x row → r ≡ guess (getD alphabet x unused) (drop at (now (s .entry)))) ⌝ }
+{
+    let f = digit_at(s, at);
+    if f == 10 {
+        return 0;
+    }
+    let two = two_digits(row, f, s, at + 1);
+    if two != UNSET {
+        return two;
+    }
+    let one = place_of(row, f);
+    if one != UNSET {
+        return one;
+    }
+    starting_with(row, s[at])
+}
+
 // The value of a letter whose text goes furthest along with a text, from a place on.
-fn guess_at(x: usize, s: &[u8], at: usize) -> u8
-    requires { ⌜ x < 26 ⌝ }
-    ensures { λ r. ⌜ r ≡ guess (getD alphabet x unused) (drop at (now (s .entry))) ⌝ }
+fn guess_at(row: u32, s: &[u8], at: usize) -> u8
+    requires { ⌜ Row row ⌝ }
+    ensures { λ r. ⌜ ((x : ℕ) → RowOf x row → r ≡ guess (getD alphabet x unused) (drop at (now (s .entry)))) ⌝ }
 {
     if s.len() <= at {
         return 0;
     }
-    if first_of(x) == 0 {
-        return number_at(s, at, count_of(x));
+    if first_in(row) < NUMBERS {
+        return number_at(row, s, at);
     }
-    starting_with(x, s[at])
+    starting_with(row, s[at])
 }
 
 // How many bytes a text goes along with a packed, from a place on.
@@ -252,12 +292,12 @@ pub fn along(packed: u32, s: &[u8], at: usize) -> usize
 }
 
 // The value of a letter: the one that it has, or what the text says.
-pub fn value_at(x: usize, v: u8, s: &[u8], at: usize) -> u8
-    requires { ⌜ x < 26 ⌝ }
-    ensures { λ r. ⌜ r ≡ valueOf (getD alphabet x unused) v (drop at (now (s .entry))) ⌝ }
+pub fn value_at(row: u32, v: u8, s: &[u8], at: usize) -> u8
+    requires { ⌜ Row row ⌝ }
+    ensures { λ r. ⌜ ((x : ℕ) → RowOf x row → r ≡ valueOf (getD alphabet x unused) v (drop at (now (s .entry)))) ⌝ }
 {
-    if v == 255 {
-        return guess_at(x, s, at);
+    if v == UNSET {
+        return guess_at(row, s, at);
     }
     v
 }

@@ -76,6 +76,7 @@ fn print_written(written: LineWritten) {
         LineWritten::NoSize => print_answer(7, 0),
         LineWritten::NoRotation => print_answer(8, 0),
         LineWritten::RegisterLimit => print_answer(9, 0),
+        LineWritten::GroupStart => print_answer(14, 0),
         LineWritten::IndexLimit => print_answer(10, 0),
         LineWritten::Room => print_answer(13, 0),
     }

@@ -15,7 +15,7 @@ use Rattle.line_reader.specs.declared.matcher.Matched.{Matched}
 use Rattle.grammar.specs.Template.{Item, byte, var, count, textOf, bind}
 use Rattle.grammar.specs.Follow.{Followed, unset, commonPrefix, further, stuck, valueOf, follow}
 use Rattle.grammar.specs.Search.{blank}
-use Rattle.grammar.specs.Grammar.{alphabet, unused, variables, itemOf}
+use Rattle.grammar.specs.Grammar.{alphabet, unused, letterCount, slotOf, variables, itemOf}
 use Rattle.grammar.specs.Packed.{textBytes}
 use Rattle.line_reader.specs.Steps.{valuesIn, Held, Took, Steps, followedOf}
 use Rattle.grammar.proofs.Prefix.{common-le-right}
@@ -73,15 +73,15 @@ set-values vs x v h =
       | no n ↦ getD-set-other vs x y v unset n ∙ sym (rw (ne-eqb y x n))
     ])
 
-pub value-low : (x : ℕ) (vs s : List ℕ) (at v : ℕ) → Held vs → v ≡ valueOf (getD alphabet x unused) (valuesIn vs x) (drop at s) → v < count (getD alphabet x unused)
+pub value-low : (x : ℕ) (vs s : List ℕ) (at v : ℕ) → Held vs → v ≡ valueOf (getD alphabet x unused) (valuesIn vs (slotOf x)) (drop at s) → v < most (slotOf x)
 unfolding variables
 value-low x vs s at v held e = rw e (value-fits variables most readable x (valuesIn vs) (drop at s) (held .each))
 
-module _ (x : ℕ) (vs s : List ℕ) (at v packed n size : ℕ) (low : at ≤ length s) (small : x < 26) (held : Held vs)
-    (value : v ≡ valueOf (getD alphabet x unused) (valuesIn vs x) (drop at s))
+module _ (x : ℕ) (vs s : List ℕ) (at v packed n size : ℕ) (low : at ≤ length s) (small : slotOf x < letterCount) (held : Held vs)
+    (value : v ≡ valueOf (getD alphabet x unused) (valuesIn vs (slotOf x)) (drop at s))
     (text : textBytes packed ≡ textOf (getD alphabet x unused) v) (far : n ≡ commonPrefix (textBytes packed) (drop at s)) (sized : size ≡ length (textBytes packed)) where
   abbrev said : List ℕ
-  said = textOf (getD alphabet x unused) (valueOf (getD alphabet x unused) (valuesIn vs x) (drop at s))
+  said = textOf (getD alphabet x unused) (valueOf (getD alphabet x unused) (valuesIn vs (slotOf x)) (drop at s))
 
   word-said : textBytes packed ≡ said
   word-said = text ∙ ap (textOf (getD alphabet x unused)) value
@@ -92,20 +92,20 @@ module _ (x : ℕ) (vs s : List ℕ) (at v packed n size : ℕ) (low : at ≤ le
   size-said : size ≡ length said
   size-said = sized ∙ ap length word-said
 
-  after : valuesIn (set vs x v) ≡ bind x (valueOf (getD alphabet x unused) (valuesIn vs x) (drop at s)) (valuesIn vs)
-  after = set-values vs x v (omega (arith, held .sized)) ∙ ap (λ (z : ℕ). bind x z (valuesIn vs)) value
+  after : valuesIn (set vs (slotOf x) v) ≡ bind (slotOf x) (valueOf (getD alphabet x unused) (valuesIn vs (slotOf x)) (drop at s)) (valuesIn vs)
+  after = set-values vs (slotOf x) v (omega (arith, held .sized)) ∙ ap (λ (z : ℕ). bind (slotOf x) z (valuesIn vs)) value
 
-  held-after : Held (set vs x v)
+  held-after : Held (set vs (slotOf x) v)
   held-after =
       record {
-        sized = length-set vs x v ∙ held .sized;
-        each = λ y. subst (λ (r : ℕ → ℕ). (r y ≡ unset) ⊎ (r y < most y)) (sym (set-values vs x v (omega (arith, held .sized)))) (partly-bind most x v (valuesIn vs) (held .each) (value-low x vs s at v held value) y);
+        sized = length-set vs (slotOf x) v ∙ held .sized;
+        each = λ y. subst (λ (r : ℕ → ℕ). (r y ≡ unset) ⊎ (r y < most y)) (sym (set-values vs (slotOf x) v (omega (arith, held .sized)))) (partly-bind most (slotOf x) v (valuesIn vs) (held .each) (value-low x vs s at v held value) y);
       }
 
   pub n-inside : at + n ≤ length s
   n-inside = omega (arith, far, common-le-right (textBytes packed) (drop at s), length-drop at s)
 
-  pub variable-steps : Steps (var x) vs s at (record { on = eqb n size; at = at + n; values = set vs x v })
+  pub variable-steps : Steps (var x) vs s at (record { on = eqb n size; at = at + n; values = set vs (slotOf x) v })
   unfolding variables
   variable-steps =
       let step : n ≡ at + n - at = omega arith in
@@ -116,15 +116,15 @@ module _ (x : ℕ) (vs s : List ℕ) (at v packed n size : ℕ) (low : at ≤ le
         on = λ f t.
             let all : n ≡ length said = eqb-true n size f ∙ size-said in
             follow-on variables most readable x t (valuesIn vs) (drop at s) (sym far-said ∙ all)
-            ∙ ap (λ (k : ℕ). further k (follow variables t (bind x (valueOf (getD alphabet x unused) (valuesIn vs x) (drop at s)) (valuesIn vs)) (drop k (drop at s)))) (sym all)
+            ∙ ap (λ (k : ℕ). further k (follow variables t (bind (slotOf x) (valueOf (getD alphabet x unused) (valuesIn vs (slotOf x)) (drop at s)) (valuesIn vs)) (drop k (drop at s)))) (sym all)
             ∙ ap (λ (r : ℕ → ℕ). further n (follow variables t r (drop n (drop at s)))) (sym after)
-            ∙ ap (λ (u : List ℕ). further n (follow variables t (valuesIn (set vs x v)) u)) (drop-drop n at s)
-            ∙ ap (λ (k : ℕ). further k (follow variables t (valuesIn (set vs x v)) (drop (at + n) s))) step;
+            ∙ ap (λ (u : List ℕ). further n (follow variables t (valuesIn (set vs (slotOf x) v)) u)) (drop-drop n at s)
+            ∙ ap (λ (k : ℕ). further k (follow variables t (valuesIn (set vs (slotOf x) v)) (drop (at + n) s))) step;
         off = λ f t.
             follow-off variables most readable x t (valuesIn vs) (drop at s) (λ e. eqb-false n size f (far-said ∙ e ∙ sym size-said))
-            ∙ ap (λ (k : ℕ). stuck k (bind x (valueOf (getD alphabet x unused) (valuesIn vs x) (drop at s)) (valuesIn vs))) (sym far-said)
+            ∙ ap (λ (k : ℕ). stuck k (bind (slotOf x) (valueOf (getD alphabet x unused) (valuesIn vs (slotOf x)) (drop at s)) (valuesIn vs))) (sym far-said)
             ∙ ap (λ (r : ℕ → ℕ). stuck n r) (sym after)
-            ∙ ap (λ (k : ℕ). stuck k (valuesIn (set vs x v))) step;
+            ∙ ap (λ (k : ℕ). stuck k (valuesIn (set vs (slotOf x) v))) step;
       }
 
 -- what is read of an array does not depend on what stands for nothing
@@ -133,8 +133,10 @@ getD-any [] i d e h = absurd (omega arith)
 getD-any (a ∷ l) zero d e h = refl
 getD-any (a ∷ l) (suc i) d e h = getD-any l i d e (omega arith)
 
-pub value-read : (x : ℕ) (vs s : List ℕ) (at v : ℕ) → x < 26 → Held vs → v ≡ valueOf (getD alphabet x unused) (getD vs x 0) (drop at s) → v ≡ valueOf (getD alphabet x unused) (valuesIn vs x) (drop at s)
-value-read x vs s at v h held e = e ∙ ap (λ (z : ℕ). valueOf (getD alphabet x unused) z (drop at s)) (getD-any vs x 0 unset (omega (arith, held .sized)))
+-- the value that was read, by the slot that the code took it from
+pub value-read : (x y : ℕ) (vs s : List ℕ) (at v : ℕ) → y ≡ slotOf x → y < letterCount → Held vs → v ≡ valueOf (getD alphabet x unused) (getD vs y 0) (drop at s) → v ≡ valueOf (getD alphabet x unused) (valuesIn vs (slotOf x)) (drop at s)
+value-read x y vs s at v is h held e =
+    e ∙ ap (λ (z : ℕ). valueOf (getD alphabet x unused) z (drop at s)) (getD-any vs y 0 unset (omega (arith, held .sized)) ∙ ap (valuesIn vs) is)
 
 pub same-steps : {x y : Item} {vs s : List ℕ} {at : ℕ} {r : Took} → x ≡ y → Steps x vs s at r → Steps y vs s at r
 same-steps {x} {y} {vs} {s} {at} {r} e p = subst (λ (z : Item). Steps z vs s at r) e p
@@ -162,11 +164,11 @@ none-set zero y = refl
 none-set (suc n) zero = refl
 none-set (suc n) (suc y) = none-set n y
 
-pub blank-held : Held (replicate 26 unset)
-blank-held = record { sized = refl; each = λ y. inl (none-set 26 y) }
+pub blank-held : Held (replicate letterCount unset)
+blank-held = record { sized = refl; each = λ y. inl (none-set letterCount y) }
 
-pub blank-values : (y : ℕ) → valuesIn (replicate 26 unset) y ≡ unset
-blank-values y = none-set 26 y
+pub blank-values : (y : ℕ) → valuesIn (replicate letterCount unset) y ≡ unset
+blank-values y = none-set letterCount y
 
 pub following-starts : (t s vs : List ℕ) → Held vs → ((y : ℕ) → valuesIn vs y ≡ unset) → Following t s vs 0 0
 following-starts t s vs held none =

@@ -11,15 +11,15 @@ use Rattle.grammar.specs.Template.{Item, count}
 use Rattle.grammar.specs.Follow.{Followed, unset, further, stuck, follow}
 use Rattle.line_reader.specs.declared.reader.Found.{Found}
 use Rattle.grammar.specs.Search.{Search, read, unread, pickSearch, blank}
-use Rattle.grammar.specs.Grammar.{alphabet, unused, variables, templates, itemOf}
+use Rattle.grammar.specs.Grammar.{alphabet, unused, letterCount, patternCount, variables, templates, itemOf}
 
 -- the values that an array holds
 abbrev pub valuesIn : List ℕ → ℕ → ℕ
 valuesIn vs y = getD vs y unset
 
--- a value for each letter of the alphabet: unset, or one of the letter's
+-- a value for each slot: unset, or one of the slot's
 pub record Held (vs : List ℕ) : Type 0 where
-  pub sized : length vs ≡ 26
+  pub sized : length vs ≡ letterCount
   pub each : (y : ℕ) → (valuesIn vs y ≡ unset) ⊎ (valuesIn vs y < count (getD alphabet y unused))
 
 -- one step, with the values behind it
@@ -47,7 +47,7 @@ searchOf f = pickSearch (f .whole) (read (f .pattern) (valuesIn (f .values))) (u
 
 -- a pattern that was tried where others go so far: it has the text, or it has not and how far the furthest goes is known
 pub record Tried (pattern : ℕ) (s : List ℕ) (far : ℕ) (m : Matched) : Type 0 where
-  pub sized : length (m .values) ≡ 26
+  pub sized : length (m .values) ≡ letterCount
   pub has : m .whole ≡ true → followedOf m ≡ follow variables (getD templates pattern []) blank s
   pub has-not : m .whole ≡ false → follow variables (getD templates pattern []) blank s .whole ≡ false
   pub furthest : m .whole ≡ false → max far (m .reach) ≡ max far (follow variables (getD templates pattern []) blank s .reach)
@@ -55,5 +55,5 @@ pub record Tried (pattern : ℕ) (s : List ℕ) (far : ℕ) (m : Matched) : Type
 -- some pattern goes so far
 pub record Reached (s : List ℕ) (reach : ℕ) : Type 0 where
   pub pattern : ℕ
-  pub low : pattern < 16
+  pub low : pattern < patternCount
   pub is : follow variables (getD templates pattern []) blank s .reach ≡ reach

@@ -1,4 +1,4 @@
-// How far a text follows a template, and the values that it gives the letters.
+// How far a text follows a template, and the values that it gives the slots.
 ghost use mathlib.Core.Path.{_≡_};
 ghost use mathlib.Core.List.{List, map};
 ghost use Prim.Native.Nat.{ℕ, _<_, _≤_};
@@ -6,14 +6,16 @@ ghost use lib.ListN.{length};
 ghost use Rattle.grammar.specs.Template.{Item};
 ghost use Rattle.grammar.specs.Follow.{follow};
 ghost use Rattle.grammar.specs.Search.{blank};
-ghost use Rattle.grammar.specs.Grammar.{variables, itemOf};
+ghost use Rattle.grammar.specs.Grammar.{variables, itemOf, letterCount};
 ghost use Rattle.line_reader.specs.Steps.{Held, taken, Steps, followedOf};
+use letters::texts::LETTERS;
+use letters::texts::UNSET;
 use letters::texts::along;
 use letters::texts::length_of;
-use letters::texts::text_of;
+use letters::texts::row_of;
+use letters::texts::slot_of;
+use letters::texts::text_in;
 use letters::texts::value_at;
-
-const UNSET: u8 = 255;
 
 // Whether to go on, and the place.
 pub struct Step {
@@ -25,7 +27,7 @@ pub struct Step {
 pub struct Matched {
     pub whole: bool,
     pub reach: usize,
-    pub values: [u8; 26],
+    pub values: [u8; LETTERS],
 }
 
 fn literal(c: u8, s: &[u8], at: usize) -> Step
@@ -44,13 +46,15 @@ fn literal(c: u8, s: &[u8], at: usize) -> Step
     }
 }
 
-fn variable(x: usize, values: &mut [u8; 26], s: &[u8], at: usize) -> Step
-    requires { ⌜ (x < 26) × (at ≤ length (now s)) × Held (now values) ⌝ }
+fn variable(x: usize, values: &mut [u8; LETTERS], s: &[u8], at: usize) -> Step
+    requires { ⌜ (x < letterCount) × (at ≤ length (now s)) × Held (now values) ⌝ }
     ensures { λ r. ⌜ Steps (Item.var x) (now (values .entry)) (now (s .entry)) at (taken r (now (values .exit))) ⌝ }
 {
-    let v = value_at(x, values[x], s, at);
-    values[x] = v;
-    let packed = text_of(x, v);
+    let slot = slot_of(x);
+    let row = row_of(x);
+    let v = value_at(row, values[slot], s, at);
+    values[slot] = v;
+    let packed = text_in(row, v);
     let n = along(packed, s, at);
     Step {
         on: n == length_of(packed),
@@ -58,7 +62,7 @@ fn variable(x: usize, values: &mut [u8; 26], s: &[u8], at: usize) -> Step
     }
 }
 
-fn one_item(c: u8, values: &mut [u8; 26], s: &[u8], at: usize) -> Step
+fn one_item(c: u8, values: &mut [u8; LETTERS], s: &[u8], at: usize) -> Step
     requires { ⌜ (at ≤ length (now s)) × Held (now values) ⌝ }
     ensures { λ r. ⌜ Steps (itemOf c) (now (values .entry)) (now (s .entry)) at (taken r (now (values .exit))) ⌝ }
 {
@@ -72,9 +76,9 @@ fn one_item(c: u8, values: &mut [u8; 26], s: &[u8], at: usize) -> Step
 }
 
 pub fn follow(template: &[u8], s: &[u8]) -> Matched
-    ensures { λ r. ⌜ (followedOf r ≡ follow variables (map itemOf (now (template .entry))) blank (now (s .entry))) × (length (r .values) ≡ 26) ⌝ }
+    ensures { λ r. ⌜ (followedOf r ≡ follow variables (map itemOf (now (template .entry))) blank (now (s .entry))) × (length (r .values) ≡ letterCount) ⌝ }
 {
-    let mut values = [UNSET; 26];
+    let mut values = [UNSET; LETTERS];
     let mut at = 0;
     for k in 0..template.len() {
         let next = one_item(template[k], &mut values, s, at);

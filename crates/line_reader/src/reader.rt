@@ -2,11 +2,11 @@
 ghost use mathlib.Core.Path.{_≡_};
 ghost use mathlib.Core.Logic.{_≢_};
 ghost use mathlib.Core.Bool.{true};
-ghost use Prim.Native.Nat.{_<_, _≤_, max};
+ghost use Prim.Native.Nat.{_*_, _<_, _≤_, max};
 ghost use lib.ListN.{length, getD};
-ghost use Rattle.isa.specs.Decode.{vectorOf};
+ghost use Rattle.isa.specs.Decode.{sizeOf, vectorOf};
 ghost use Rattle.grammar.specs.Search.{blank, search};
-ghost use Rattle.grammar.specs.Grammar.{variables, templates, addFrom, mulFrom, indexedFrom, elementFrom};
+ghost use Rattle.grammar.specs.Grammar.{variables, templates, patternCount, letterCount, letterH, letterT, addFrom, mulFrom, indexedFrom, elementFrom};
 ghost use Rattle.grammar.specs.Read.{makeAt, readOf};
 ghost use Rattle.line_reader.specs.Steps.{valuesIn, searchOf, Tried, Reached};
 use crate::matcher::Matched;
@@ -18,11 +18,16 @@ use grammar::types::LineRead;
 use isa::types::Add;
 use isa::types::ByElement;
 use isa::types::Form;
+use isa::types::Group;
 use isa::types::Mul;
+use isa::types::MulGroup;
 use isa::types::MulIndexed;
 use isa::types::Op;
 use isa::types::Size;
+use letters::templates::PATTERNS;
 use letters::templates::template_at;
+use letters::texts::LETTERS;
+use letters::texts::UNSET;
 use letters::texts::wide;
 
 fn vector_of(v: u32) -> Form
@@ -39,7 +44,7 @@ pub struct Found {
     pub whole: bool,
     pub pattern: usize,
     pub reach: usize,
-    pub values: [u8; 26],
+    pub values: [u8; LETTERS],
 }
 
 fn larger(a: usize, b: usize) -> usize
@@ -63,7 +68,7 @@ fn stops_short(byte: u8, at: usize, s: &[u8], far: usize) -> bool
 
 // The template of a pattern, followed by a text, where others go so far. Most patterns are told by their mark to go no further.
 fn try_pattern(pattern: usize, s: &[u8], far: usize) -> Matched
-    requires { ⌜ pattern < 16 ⌝ }
+    requires { ⌜ pattern < patternCount ⌝ }
     ensures { λ r. ⌜ Tried pattern (now (s .entry)) far r ⌝ }
 {
     let t = template_at(pattern);
@@ -73,7 +78,7 @@ fn try_pattern(pattern: usize, s: &[u8], far: usize) -> Matched
         return Matched {
             whole: false,
             reach: far,
-            values: [255; 26],
+            values: [UNSET; LETTERS],
         };
     }
     let n = t.size;
@@ -83,10 +88,10 @@ fn try_pattern(pattern: usize, s: &[u8], far: usize) -> Matched
 // The first pattern that has a text, or how far the furthest goes, where one goes so far.
 pub fn find(s: &[u8], reach: usize) -> Found
     requires { ⌜ Reached (now s) reach ⌝ }
-    ensures { λ r. ⌜ (searchOf r ≡ search variables templates (now (s .entry)) 0 0) × (length (r .values) ≡ 26) ⌝ }
+    ensures { λ r. ⌜ (searchOf r ≡ search variables templates (now (s .entry)) 0 0) × (length (r .values) ≡ letterCount) ⌝ }
 {
     let mut furthest = reach;
-    for pattern in 0..16 {
+    for pattern in 0..PATTERNS {
         let m = try_pattern(pattern, s, furthest);
         let values = m.values;
         if m.whole {
@@ -101,22 +106,22 @@ pub fn find(s: &[u8], reach: usize) -> Found
     }
     Found {
         whole: false,
-        pattern: 16,
+        pattern: PATTERNS,
         reach: furthest,
-        values: [255; 26],
+        values: [UNSET; LETTERS],
     }
 }
 
 // The value of a letter.
-fn letter(r: [u8; 26], x: usize) -> u32
-    requires { ⌜ (x < 26) × (length r ≡ 26) ⌝ }
+fn letter(r: [u8; LETTERS], x: usize) -> u32
+    requires { ⌜ (x < letterCount) × (length r ≡ letterCount) ⌝ }
     ensures { λ v. ⌜ v ≡ valuesIn r x ⌝ }
 {
     wide(r[x])
 }
 
-fn add_of(r: [u8; 26]) -> Add
-    requires { ⌜ length r ≡ 26 ⌝ }
+fn add_of(r: [u8; LETTERS]) -> Add
+    requires { ⌜ length r ≡ letterCount ⌝ }
     ensures { λ a. ⌜ a ≡ addFrom (valuesIn r) ⌝ }
 {
     let size = size_of(letter(r, 19));
@@ -126,8 +131,8 @@ fn add_of(r: [u8; 26]) -> Add
     Add { size, zm, zdn, rot }
 }
 
-fn mul_of(r: [u8; 26]) -> Mul
-    requires { ⌜ length r ≡ 26 ⌝ }
+fn mul_of(r: [u8; LETTERS]) -> Mul
+    requires { ⌜ length r ≡ letterCount ⌝ }
     ensures { λ a. ⌜ a ≡ mulFrom (valuesIn r) ⌝ }
 {
     let size = size_of(letter(r, 19));
@@ -145,8 +150,8 @@ fn mul_of(r: [u8; 26]) -> Mul
 }
 
 // With the letters of the second source and of the index.
-fn indexed_of(size: Size, m: usize, i: usize, r: [u8; 26]) -> MulIndexed
-    requires { ⌜ (m < 26) × (i < 26) × (length r ≡ 26) ⌝ }
+fn indexed_of(size: Size, m: usize, i: usize, r: [u8; LETTERS]) -> MulIndexed
+    requires { ⌜ (m < letterCount) × (i < letterCount) × (length r ≡ letterCount) ⌝ }
     ensures { λ a. ⌜ a ≡ indexedFrom size m i (valuesIn r) ⌝ }
 {
     let zm = letter(r, m);
@@ -164,8 +169,8 @@ fn indexed_of(size: Size, m: usize, i: usize, r: [u8; 26]) -> MulIndexed
     }
 }
 
-fn element_of(size: Size, form: Form, m: usize, i: usize, r: [u8; 26]) -> ByElement
-    requires { ⌜ (m < 26) × (i < 26) × (length r ≡ 26) ⌝ }
+fn element_of(size: Size, form: Form, m: usize, i: usize, r: [u8; LETTERS]) -> ByElement
+    requires { ⌜ (m < letterCount) × (i < letterCount) × (length r ≡ letterCount) ⌝ }
     ensures { λ a. ⌜ a ≡ elementFrom size form m i (valuesIn r) ⌝ }
 {
     let rm = letter(r, m);
@@ -182,15 +187,15 @@ fn element_of(size: Size, form: Form, m: usize, i: usize, r: [u8; 26]) -> ByElem
     }
 }
 
-fn vector_by(x: usize, r: [u8; 26]) -> Form
-    requires { ⌜ (x < 26) × (length r ≡ 26) ⌝ }
+fn vector_by(x: usize, r: [u8; LETTERS]) -> Form
+    requires { ⌜ (x < letterCount) × (length r ≡ letterCount) ⌝ }
     ensures { λ f. ⌜ f ≡ vectorOf (valuesIn r x) ⌝ }
 {
     vector_of(letter(r, x))
 }
 
-fn first_patterns(pattern: usize, r: [u8; 26]) -> Op
-    requires { ⌜ (0 ≤ pattern) × (pattern < 4) × (length r ≡ 26) ⌝ }
+fn first_patterns(pattern: usize, r: [u8; LETTERS]) -> Op
+    requires { ⌜ (0 ≤ pattern) × (pattern < 4) × (length r ≡ letterCount) ⌝ }
     ensures { λ op. ⌜ op ≡ makeAt pattern (valuesIn r) ⌝ }
 {
     match pattern {
@@ -201,8 +206,8 @@ fn first_patterns(pattern: usize, r: [u8; 26]) -> Op
     }
 }
 
-fn second_patterns(pattern: usize, r: [u8; 26]) -> Op
-    requires { ⌜ (4 ≤ pattern) × (pattern < 8) × (length r ≡ 26) ⌝ }
+fn second_patterns(pattern: usize, r: [u8; LETTERS]) -> Op
+    requires { ⌜ (4 ≤ pattern) × (pattern < 8) × (length r ≡ letterCount) ⌝ }
     ensures { λ op. ⌜ op ≡ makeAt pattern (valuesIn r) ⌝ }
 {
     match pattern {
@@ -213,8 +218,8 @@ fn second_patterns(pattern: usize, r: [u8; 26]) -> Op
     }
 }
 
-fn third_patterns(pattern: usize, r: [u8; 26]) -> Op
-    requires { ⌜ (8 ≤ pattern) × (pattern < 12) × (length r ≡ 26) ⌝ }
+fn third_patterns(pattern: usize, r: [u8; LETTERS]) -> Op
+    requires { ⌜ (8 ≤ pattern) × (pattern < 12) × (length r ≡ letterCount) ⌝ }
     ensures { λ op. ⌜ op ≡ makeAt pattern (valuesIn r) ⌝ }
 {
     match pattern {
@@ -225,8 +230,8 @@ fn third_patterns(pattern: usize, r: [u8; 26]) -> Op
     }
 }
 
-fn last_patterns(pattern: usize, r: [u8; 26]) -> Op
-    requires { ⌜ (12 ≤ pattern) × (pattern < 16) × (length r ≡ 26) ⌝ }
+fn fourth_patterns(pattern: usize, r: [u8; LETTERS]) -> Op
+    requires { ⌜ (12 ≤ pattern) × (pattern < 16) × (length r ≡ letterCount) ⌝ }
     ensures { λ op. ⌜ op ≡ makeAt pattern (valuesIn r) ⌝ }
 {
     match pattern {
@@ -237,9 +242,46 @@ fn last_patterns(pattern: usize, r: [u8; 26]) -> Op
     }
 }
 
+// The first register of a group, by the group's number.
+fn first_of_two(group: u8) -> u32
+    ensures { λ r. ⌜ r ≡ group * 2 ⌝ }
+{
+    (group as u32) << 1
+}
+
+fn first_of_four(group: u8) -> u32
+    ensures { λ r. ⌜ r ≡ group * 4 ⌝ }
+{
+    (group as u32) << 2
+}
+
+fn group_of(group: Group, zdn: u32, r: [u8; LETTERS]) -> MulGroup
+    requires { ⌜ length r ≡ letterCount ⌝ }
+    ensures { λ a. ⌜ a ≡ record { size = sizeOf (valuesIn r letterT); zm = valuesIn r letterH; zdn = zdn; group = group } ⌝ }
+{
+    let size = size_of(letter(r, 19));
+    let zm = letter(r, 7);
+    MulGroup {
+        size,
+        zm,
+        zdn,
+        group,
+    }
+}
+
+fn group_patterns(pattern: usize, r: [u8; LETTERS]) -> Op
+    requires { ⌜ (16 ≤ pattern) × (pattern < patternCount) × (length r ≡ letterCount) ⌝ }
+    ensures { λ op. ⌜ op ≡ makeAt pattern (valuesIn r) ⌝ }
+{
+    match pattern {
+        16 => Op::Sqdmulh(group_of(Group::Two, first_of_two(r[0]), r)),
+        _ => Op::Sqdmulh(group_of(Group::Four, first_of_four(r[4]), r)),
+    }
+}
+
 // The operation that values make, by the pattern.
-fn make(pattern: usize, r: [u8; 26]) -> Op
-    requires { ⌜ (pattern < 16) × (length r ≡ 26) ⌝ }
+fn make(pattern: usize, r: [u8; LETTERS]) -> Op
+    requires { ⌜ (pattern < patternCount) × (length r ≡ letterCount) ⌝ }
     ensures { λ op. ⌜ op ≡ makeAt pattern (valuesIn r) ⌝ }
 {
     if pattern < 4 {
@@ -251,7 +293,10 @@ fn make(pattern: usize, r: [u8; 26]) -> Op
     if pattern < 12 {
         return third_patterns(pattern, r);
     }
-    last_patterns(pattern, r)
+    if pattern < 16 {
+        return fourth_patterns(pattern, r);
+    }
+    group_patterns(pattern, r)
 }
 
 // 0: by vectors; 1: indexed at H; 2: indexed at S.
@@ -295,9 +340,29 @@ fn element_by(s: &[u8]) -> usize
     1
 }
 
+// A group of two has the register after an even one, which differs in the last bit alone.
+fn group_by(s: &[u8]) -> usize
+    requires { ⌜ 16 ≤ length (now s) ⌝ }
+    ensures { λ r. ⌜ r < 2 ⌝ }
+{
+    if s.len() < 19 {
+        return 0;
+    }
+    if s[12] == b'.' {
+        return differ_more(s[11], s[16]);
+    }
+    differ_more(s[12], s[18])
+}
+
+fn differ_more(a: u8, b: u8) -> usize
+    ensures { λ r. ⌜ r < 2 ⌝ }
+{
+    if a ^ b == 1 { 0 } else { 1 }
+}
+
 // The pattern that a line most likely has, by a few of its bytes. That it is right is not relied on.
 fn likely_pattern(s: &[u8]) -> usize
-    ensures { λ r. ⌜ r < 16 ⌝ }
+    ensures { λ r. ⌜ r < patternCount ⌝ }
 {
     if s.len() < 16 {
         return 0;
@@ -310,6 +375,9 @@ fn likely_pattern(s: &[u8]) -> usize
     }
     if s[2] == b'C' {
         return 4;
+    }
+    if s[2] == b'D' {
+        return 16 + group_by(s);
     }
     if s[4] == b'C' {
         return 5 + indexed_by(s);

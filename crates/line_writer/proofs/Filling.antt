@@ -10,12 +10,15 @@ use lib.Seq.{drop-cons, take-suc, take-set-le, getD-set-same, getD-set-other, le
 use Rattle.isa.specs.declared.types.Size.{Size}
 use Rattle.isa.specs.declared.types.MulIndexed.{MulIndexed}
 use Rattle.isa.specs.declared.types.ByElement.{ByElement}
+use Rattle.isa.specs.declared.types.Group.{Group}
+use Rattle.isa.specs.declared.types.MulGroup.{MulGroup}
+use Rattle.isa.specs.Register.{byGroup, groupCount}
 use Rattle.isa.specs.Encode.{bySize}
 use Rattle.grammar.specs.Template.{Item, byte, var, textOf, fill, bind}
-use Rattle.grammar.specs.Grammar.{variables, itemOf, letterH, letterI, letterJ, letterK, letterL, letterM, letterP, letterQ, noValues, indexedValues, elementValues}
+use Rattle.grammar.specs.Grammar.{variables, itemOf, letterCount, lineMax, letterA, letterE, letterH, letterI, letterJ, letterK, letterL, letterM, letterP, letterQ, noValues, indexedValues, elementValues}
 use Rattle.grammar.specs.Packed.{unpack, textBytes}
 use Rattle.grammar.proofs.Packed.{text-length}
-use Rattle.line_writer.specs.Fill.{valuesFrom, Few, indexedBy, elementBy, itemText, Puts}
+use Rattle.line_writer.specs.Fill.{valuesFrom, lineRoom, Few, indexedBy, elementBy, groupWith, groupBy, itemText, Puts}
 
 -- ---- values
 
@@ -32,18 +35,18 @@ zeros zero y = refl
 zeros (suc n) zero = refl
 zeros (suc n) (suc y) = zeros n y
 
-none-from : valuesFrom (replicate 26 0) ≡ noValues
-none-from = fun-ext (λ y. zeros 26 y)
+none-from : valuesFrom (replicate letterCount 0) ≡ noValues
+none-from = fun-ext (λ y. zeros letterCount y)
 
 -- an array of so many places, with values at some of them
 pub record Holds (vs : List ℕ) (e : ℕ → ℕ) : Type 0 where
-  pub sized : length vs ≡ 26
+  pub sized : length vs ≡ letterCount
   pub is : valuesFrom vs ≡ e
 
-pub holds-none : Holds (replicate 26 0) noValues
+pub holds-none : Holds (replicate letterCount 0) noValues
 holds-none = record { sized = refl; is = none-from }
 
-pub holds-set : {vs : List ℕ} {e : ℕ → ℕ} (x : ℕ) {v w : ℕ} → x < 26 → v ≡ w → Holds vs e → Holds (set vs x v) (bind x w e)
+pub holds-set : {vs : List ℕ} {e : ℕ → ℕ} (x : ℕ) {v w : ℕ} → x < letterCount → v ≡ w → Holds vs e → Holds (set vs x v) (bind x w e)
 holds-set {vs} {e} x {v} {w} h k p =
     record {
       sized = length-set vs x v ∙ p .sized;
@@ -150,11 +153,11 @@ filled t vs = fill variables (map itemOf t) (valuesFrom vs)
 
 pub record Filling (t vs l : List ℕ) (at k : ℕ) : Type 0 where
   pub within : k ≤ length t
-  pub sized : length l ≡ 41
+  pub sized : length l ≡ lineRoom
   pub far : at + length (filled (drop k t) vs) ≡ length (filled t vs)
   pub held : take at l ++ filled (drop k t) vs ≡ filled t vs
 
-pub filling-starts : (t vs l : List ℕ) → length l ≡ 41 → Filling t vs l 0 0
+pub filling-starts : (t vs l : List ℕ) → length l ≡ lineRoom → Filling t vs l 0 0
 filling-starts t vs l n = record { within = omega arith; sized = n; far = omega arith; held = refl }
 
 pub filling-on : {t vs l : List ℕ} {at k next : ℕ} {after : List ℕ} → Filling t vs l at k → k < length t → Puts (itemText (itemOf (getD t k 0)) (valuesFrom vs)) l at next after → Filling t vs after next (k + 1)
@@ -175,7 +178,7 @@ filling-on {t} {vs} {l} {at} {k} {next} {after} f h p =
           ∙ f .held;
     }
 
-pub filling-low : {t vs l : List ℕ} {at k : ℕ} → Filling t vs l at k → length (filled t vs) ≤ 38 → at ≤ 38
+pub filling-low : {t vs l : List ℕ} {at k : ℕ} → Filling t vs l at k → length (filled t vs) ≤ lineMax → at ≤ lineMax
 filling-low f h = omega (arith, f .far)
 
 pub filling-ends : {t vs l : List ℕ} {at k : ℕ} → Filling t vs l at k → length t ≤ k → (at ≡ length (filled t vs)) × (take at l ≡ filled t vs)
@@ -223,6 +226,9 @@ few-same {e} {f} k p = subst (λ (g : ℕ → ℕ). Few g) k p
 
 pub indexed-by : (a : MulIndexed) (z : Size) → a .size ≡ z → indexedBy a ≡ bySize (indexedValues letterL letterJ) (indexedValues letterH letterK) z a
 indexed-by a z e = ap (λ (y : Size). bySize (indexedValues letterL letterJ) (indexedValues letterH letterK) y a) e
+
+pub group-by : (a : MulGroup) (g : Group) → a .group ≡ g → groupBy a ≡ groupWith (byGroup letterA letterE g) (a .zdn / groupCount g) a
+group-by a g e = ap (λ (h : Group). groupWith (byGroup letterA letterE h) (a .zdn / groupCount h) a) e
 
 pub element-by : (a : ByElement) (z : Size) → a .size ≡ z → elementBy a ≡ bySize (elementValues letterQ letterH letterI) (elementValues letterP letterM letterJ) z a
 element-by a z e = ap (λ (y : Size). bySize (elementValues letterQ letterH letterI) (elementValues letterP letterM letterJ) y a) e

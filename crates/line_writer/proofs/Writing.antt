@@ -11,7 +11,7 @@ use Rattle.isa.specs.declared.types.Written.{Written}
 use Rattle.isa.specs.Encode.{encodeOf}
 use Rattle.grammar.specs.declared.types.LineWritten.{LineWritten}
 use Rattle.grammar.specs.Template.{Item, fill}
-use Rattle.grammar.specs.Grammar.{variables, itemOf, templates, patternOf, valuesOf, lineOf}
+use Rattle.grammar.specs.Grammar.{variables, itemOf, templates, patternCount, patternOf, valuesOf, lineOf}
 use Rattle.grammar.specs.Line.{Writable}
 use Rattle.grammar.specs.Write.{pickWritten, lineAnswer, LineOutcome, lineOutcome, writeOf}
 use Rattle.grammar.proofs.Alphabet.{readable}
@@ -27,7 +27,7 @@ few-writable op w y = omega (arith, remakes op w .good y, readable .few y)
 pub low-writable : (op : Op) (vs : List ℕ) → Writable op → valuesFrom vs ≡ valuesOf op → Low (valuesFrom vs)
 low-writable op vs w e = subst (λ (f : ℕ → ℕ). Low f) (sym e) (remakes op w .good)
 
-pub pattern-low : (op : Op) (n : ℕ) → Writable op → n ≡ patternOf op → n < 16
+pub pattern-low : (op : Op) (n : ℕ) → Writable op → n ≡ patternOf op → n < patternCount
 pattern-low op n w e = rw e (remakes op w .within)
 
 pub line-is : (op : Op) (t vs : List ℕ) (pattern : ℕ) → map itemOf t ≡ getD templates pattern [] → pattern ≡ patternOf op → valuesFrom vs ≡ valuesOf op → filled t vs ≡ lineOf op
@@ -64,6 +64,10 @@ no-rotation op out a e f = rw (sym e ∙ f)
 pub no-register : (op : Op) (out : List ℕ) (a : Written) → a ≡ encodeOf op → a ≡ Written.RegisterLimit → record { answer = LineWritten.RegisterLimit; out = out } ≡ writeOf op out
 unfolding writeOf lineAnswer
 no-register op out a e f = rw (sym e ∙ f)
+
+pub no-start : (op : Op) (out : List ℕ) (a : Written) → a ≡ encodeOf op → a ≡ Written.GroupStart → record { answer = LineWritten.GroupStart; out = out } ≡ writeOf op out
+unfolding writeOf lineAnswer
+no-start op out a e f = rw (sym e ∙ f)
 
 pub no-index : (op : Op) (out : List ℕ) (a : Written) → a ≡ encodeOf op → a ≡ Written.IndexLimit → record { answer = LineWritten.IndexLimit; out = out } ≡ writeOf op out
 unfolding writeOf lineAnswer

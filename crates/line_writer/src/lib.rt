@@ -6,12 +6,13 @@ ghost use lib.Dec.{leb};
 ghost use lib.ListN.{length, take, drop};
 ghost use Rattle.isa.specs.Encode.{bySize};
 ghost use Rattle.grammar.specs.Template.{fill};
-ghost use Rattle.grammar.specs.Grammar.{variables, itemOf, formBits, byForm, addValues, mulValues, indexedValues, elementValues, patternOf, valuesOf, lineOf};
+ghost use Rattle.grammar.specs.Grammar.{variables, itemOf, patternCount, letterCount, lineMax, formBits, byForm, addValues, mulValues, indexedValues, elementValues, patternOf, valuesOf, lineOf};
 ghost use Rattle.grammar.specs.Line.{Writable};
 ghost use Rattle.grammar.specs.Write.{pickWritten, lineOutcome, writeOf};
 ghost use Rattle.grammar.specs.Packed.{textBytes};
-ghost use Rattle.line_writer.specs.Fill.{valuesFrom, Low, Few, indexedBy, elementBy, itemText, Puts};
+ghost use Rattle.line_writer.specs.Fill.{valuesFrom, lineRoom, Low, Few, indexedBy, elementBy, groupWith, groupBy, itemText, Puts};
 use codec::add_rotation_bits;
+use codec::by_group;
 use codec::by_size;
 use codec::rotation_bits;
 use codec::size_bits;
@@ -19,13 +20,20 @@ use grammar::types::LineWritten;
 use isa::types::Add;
 use isa::types::ByElement;
 use isa::types::Form;
+use isa::types::Group;
 use isa::types::Mul;
+use isa::types::MulGroup;
 use isa::types::MulIndexed;
 use isa::types::Op;
 use isa::types::Size;
 use isa::types::Written;
 use letters::templates::template_at;
+use letters::texts::LETTERS;
+use letters::texts::slot_of;
 use letters::texts::text_of;
+
+// The longest line, and two bytes more that a text of one byte may be stored with.
+const ROOM: usize = 50;
 
 // ---- the pattern and the values of an operation: the makers in reverse
 
@@ -50,7 +58,7 @@ fn by_form(s: u32, v: u32, f: Form) -> u32
 }
 
 fn element_pattern(first: u32, a: ByElement) -> u32
-    requires { ⌜ first < 16 ⌝ }
+    requires { ⌜ first < patternCount ⌝ }
     ensures { λ r. ⌜ r ≡ byForm (bySize first (first + 1) (a .size)) (bySize (first + 2) (first + 3) (a .size)) (a .form) ⌝ }
 {
     let size = a.size;
@@ -80,6 +88,10 @@ fn pattern_of(op: Op) -> u32
         }
         Op::Sqrdmlah(a) => element_pattern(8, a),
         Op::Sqrdmlsh(a) => element_pattern(12, a),
+        Op::Sqdmulh(a) => {
+            let group = a.group;
+            by_group(16, 17, group)
+        }
     }
 }
 
@@ -90,13 +102,13 @@ fn narrow(x: u32) -> u8
     x as u8
 }
 
-fn add_values(a: Add) -> [u8; 26]
+fn add_values(a: Add) -> [u8; LETTERS]
     requires { ⌜ (a .zm < 100) × (a .zdn < 100) ⌝ }
     ensures { λ r. ⌜ valuesFrom r ≡ addValues a ⌝ }
 {
     let size = a.size;
     let rot = a.rot;
-    let mut r = [0; 26];
+    let mut r = [0; LETTERS];
     r[18] = narrow(add_rotation_bits(rot));
     r[12] = narrow(a.zm);
     r[19] = narrow(size_bits(size));
@@ -104,13 +116,13 @@ fn add_values(a: Add) -> [u8; 26]
     r
 }
 
-fn mul_values(a: Mul) -> [u8; 26]
+fn mul_values(a: Mul) -> [u8; LETTERS]
     requires { ⌜ (a .zm < 100) × (a .zn < 100) × (a .zda < 100) ⌝ }
     ensures { λ r. ⌜ valuesFrom r ≡ mulValues a ⌝ }
 {
     let size = a.size;
     let rot = a.rot;
-    let mut r = [0; 26];
+    let mut r = [0; LETTERS];
     r[17] = narrow(rotation_bits(rot));
     r[12] = narrow(a.zm);
     r[13] = narrow(a.zn);
@@ -119,12 +131,12 @@ fn mul_values(a: Mul) -> [u8; 26]
     r
 }
 
-fn indexed_values(m: usize, i: usize, a: MulIndexed) -> [u8; 26]
-    requires { ⌜ (m < 26) × (i < 26) × (a .zm < 100) × (a .index < 100) × (a .zn < 100) × (a .zda < 100) ⌝ }
+fn indexed_values(m: usize, i: usize, a: MulIndexed) -> [u8; LETTERS]
+    requires { ⌜ (m < letterCount) × (i < letterCount) × (a .zm < 100) × (a .index < 100) × (a .zn < 100) × (a .zda < 100) ⌝ }
     ensures { λ r. ⌜ valuesFrom r ≡ indexedValues m i a ⌝ }
 {
     let rot = a.rot;
-    let mut r = [0; 26];
+    let mut r = [0; LETTERS];
     r[17] = narrow(rotation_bits(rot));
     r[i] = narrow(a.index);
     r[m] = narrow(a.zm);
@@ -133,12 +145,12 @@ fn indexed_values(m: usize, i: usize, a: MulIndexed) -> [u8; 26]
     r
 }
 
-fn element_values(q: usize, m: usize, i: usize, a: ByElement) -> [u8; 26]
-    requires { ⌜ (q < 26) × (m < 26) × (i < 26) × (a .rm < 100) × (a .index < 100) × (a .rn < 100) × (a .rd < 100) ⌝ }
+fn element_values(q: usize, m: usize, i: usize, a: ByElement) -> [u8; LETTERS]
+    requires { ⌜ (q < letterCount) × (m < letterCount) × (i < letterCount) × (a .rm < 100) × (a .index < 100) × (a .rn < 100) × (a .rd < 100) ⌝ }
     ensures { λ r. ⌜ valuesFrom r ≡ elementValues q m i a ⌝ }
 {
     let form = a.form;
-    let mut r = [0; 26];
+    let mut r = [0; LETTERS];
     r[i] = narrow(a.index);
     r[m] = narrow(a.rm);
     r[13] = narrow(a.rn);
@@ -147,7 +159,7 @@ fn element_values(q: usize, m: usize, i: usize, a: ByElement) -> [u8; 26]
     r
 }
 
-fn sized_indexed(a: MulIndexed) -> [u8; 26]
+fn sized_indexed(a: MulIndexed) -> [u8; LETTERS]
     requires { ⌜ Few (indexedBy a) ⌝ }
     ensures { λ r. ⌜ valuesFrom r ≡ indexedBy a ⌝ }
 {
@@ -160,7 +172,7 @@ fn sized_indexed(a: MulIndexed) -> [u8; 26]
     }
 }
 
-fn sized_element(a: ByElement) -> [u8; 26]
+fn sized_element(a: ByElement) -> [u8; LETTERS]
     requires { ⌜ Few (elementBy a) ⌝ }
     ensures { λ r. ⌜ valuesFrom r ≡ elementBy a ⌝ }
 {
@@ -173,7 +185,31 @@ fn sized_element(a: ByElement) -> [u8; 26]
     }
 }
 
-fn values_of(op: Op) -> [u8; 26]
+// With the letter of the group, and its number.
+fn group_values(x: usize, number: u32, a: MulGroup) -> [u8; LETTERS]
+    requires { ⌜ (x < letterCount) × (number < 100) × (a .zm < 100) ⌝ }
+    ensures { λ r. ⌜ valuesFrom r ≡ groupWith x number a ⌝ }
+{
+    let size = a.size;
+    let mut r = [0; LETTERS];
+    r[7] = narrow(a.zm);
+    r[19] = narrow(size_bits(size));
+    r[x] = narrow(number);
+    r
+}
+
+fn grouped(a: MulGroup) -> [u8; LETTERS]
+    requires { ⌜ Few (groupBy a) ⌝ }
+    ensures { λ r. ⌜ valuesFrom r ≡ groupBy a ⌝ }
+{
+    let group = a.group;
+    match group {
+        Group::Two => group_values(0, a.zdn >> 1, a),
+        Group::Four => group_values(4, a.zdn >> 2, a),
+    }
+}
+
+fn values_of(op: Op) -> [u8; LETTERS]
     requires { ⌜ Few (valuesOf op) ⌝ }
     ensures { λ r. ⌜ valuesFrom r ≡ valuesOf op ⌝ }
 {
@@ -186,6 +222,7 @@ fn values_of(op: Op) -> [u8; 26]
         Op::SqrdcmlahIndexed(a) => sized_indexed(a),
         Op::Sqrdmlah(a) => sized_element(a),
         Op::Sqrdmlsh(a) => sized_element(a),
+        Op::Sqdmulh(a) => grouped(a),
     }
 }
 
@@ -193,12 +230,12 @@ fn values_of(op: Op) -> [u8; 26]
 
 // A text at an array's start: so many bytes.
 pub struct Text {
-    pub bytes: [u8; 41],
+    pub bytes: [u8; ROOM],
     pub size: usize,
 }
 
-fn put_byte(c: u8, bytes: &mut [u8; 41], at: usize) -> usize
-    requires { ⌜ (at ≤ 38) × (length (now bytes) ≡ 41) ⌝ }
+fn put_byte(c: u8, bytes: &mut [u8; ROOM], at: usize) -> usize
+    requires { ⌜ (at ≤ lineMax) × (length (now bytes) ≡ lineRoom) ⌝ }
     ensures { λ r. ⌜ Puts (c ∷ []) (now (bytes .entry)) at r (now (bytes .exit)) ⌝ }
 {
     bytes[at] = c;
@@ -206,8 +243,8 @@ fn put_byte(c: u8, bytes: &mut [u8; 41], at: usize) -> usize
 }
 
 // All three bytes that a text may have; those past its end are overwritten.
-fn put_choice(packed: u32, bytes: &mut [u8; 41], at: usize) -> usize
-    requires { ⌜ (at ≤ 38) × (packed / 16777216 ≤ 3) × (length (now bytes) ≡ 41) ⌝ }
+fn put_choice(packed: u32, bytes: &mut [u8; ROOM], at: usize) -> usize
+    requires { ⌜ (at ≤ lineMax) × (packed / 16777216 ≤ 3) × (length (now bytes) ≡ lineRoom) ⌝ }
     ensures { λ r. ⌜ Puts (textBytes packed) (now (bytes .entry)) at r (now (bytes .exit)) ⌝ }
 {
     bytes[at] = (packed % 256) as u8;
@@ -216,8 +253,8 @@ fn put_choice(packed: u32, bytes: &mut [u8; 41], at: usize) -> usize
     at + (packed / 16777216) as usize
 }
 
-fn put_item(c: u8, values: &[u8; 26], bytes: &mut [u8; 41], at: usize) -> usize
-    requires { ⌜ (at ≤ 38) × Low (valuesFrom (now values)) × (length (now bytes) ≡ 41) ⌝ }
+fn put_item(c: u8, values: &[u8; LETTERS], bytes: &mut [u8; ROOM], at: usize) -> usize
+    requires { ⌜ (at ≤ lineMax) × Low (valuesFrom (now values)) × (length (now bytes) ≡ lineRoom) ⌝ }
     ensures { λ r. ⌜ Puts (itemText (itemOf c) (valuesFrom (now (values .entry)))) (now (bytes .entry)) at r (now (bytes .exit)) ⌝ }
 {
     if c < b'a' {
@@ -227,15 +264,15 @@ fn put_item(c: u8, values: &[u8; 26], bytes: &mut [u8; 41], at: usize) -> usize
         return put_byte(c, bytes, at);
     }
     let x = (c - b'a') as usize;
-    let packed = text_of(x, values[x]);
+    let packed = text_of(x, values[slot_of(x)]);
     put_choice(packed, bytes, at)
 }
 
-fn fill_template(template: &[u8], values: &[u8; 26]) -> Text
-    requires { ⌜ Low (valuesFrom (now values)) × (length (fill variables (map itemOf (now template)) (valuesFrom (now values))) ≤ 38) ⌝ }
+fn fill_template(template: &[u8], values: &[u8; LETTERS]) -> Text
+    requires { ⌜ Low (valuesFrom (now values)) × (length (fill variables (map itemOf (now template)) (valuesFrom (now values))) ≤ lineMax) ⌝ }
     ensures { λ r. ⌜ (r .size ≡ length (fill variables (map itemOf (now (template .entry))) (valuesFrom (now (values .entry))))) × (take (r .size) (r .bytes) ≡ fill variables (map itemOf (now (template .entry))) (valuesFrom (now (values .entry)))) ⌝ }
 {
-    let mut bytes = [0u8; 41];
+    let mut bytes = [0u8; ROOM];
     let mut at = 0;
     for k in 0..template.len() {
         at = put_item(template[k], values, &mut bytes, at);
@@ -288,6 +325,7 @@ pub fn write_line(op: Op, out: &mut [u8]) -> LineWritten
         Written::NoSize => LineWritten::NoSize,
         Written::NoRotation => LineWritten::NoRotation,
         Written::RegisterLimit => LineWritten::RegisterLimit,
+        Written::GroupStart => LineWritten::GroupStart,
         Written::IndexLimit => LineWritten::IndexLimit,
     }
 }

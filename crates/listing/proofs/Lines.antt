@@ -25,6 +25,7 @@ operation-short (Op.Sqrdcmlah a) = lit≤ tt
 operation-short (Op.SqrdcmlahIndexed a) = lit≤ tt
 operation-short (Op.Sqrdmlah a) = lit≤ tt
 operation-short (Op.Sqrdmlsh a) = lit≤ tt
+operation-short (Op.Sqdmulh a) = lit≤ tt
 
 pub name-short : (d : Decoded) → length (nameOf d) ≤ 11
 unfolding nameOf

@@ -30,6 +30,7 @@ names =
     ascii "SQRDCMLAH-I" ∷
     ascii "SQRDMLAH" ∷
     ascii "SQRDMLSH" ∷
+    ascii "SQDMULH" ∷
     ascii "RESERVED" ∷
     ascii "OUTSIDE" ∷ []
 

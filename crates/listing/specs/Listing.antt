@@ -45,6 +45,7 @@ operationName (Op.Sqrdcmlah a) = "SQRDCMLAH"
 operationName (Op.SqrdcmlahIndexed a) = "SQRDCMLAH-I"
 operationName (Op.Sqrdmlah a) = "SQRDMLAH"
 operationName (Op.Sqrdmlsh a) = "SQRDMLSH"
+operationName (Op.Sqdmulh a) = "SQDMULH"
 
 unfoldable pub nameOf : Decoded → List ℕ
 nameOf (Decoded.Operation op) = ascii (operationName op)

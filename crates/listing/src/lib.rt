@@ -56,7 +56,7 @@ fn hex_of(word: u32) -> [u8; 9]
 
 // The number of a name, between decoding and writing.
 fn operation_number(op: Op) -> usize
-    ensures { λ r. ⌜ (r < 10) × (nameAt r ≡ ascii (operationName op)) ⌝ }
+    ensures { λ r. ⌜ (r < 11) × (nameAt r ≡ ascii (operationName op)) ⌝ }
 {
     match op {
         Op::Cadd(_) => 0,
@@ -67,27 +67,28 @@ fn operation_number(op: Op) -> usize
         Op::SqrdcmlahIndexed(_) => 5,
         Op::Sqrdmlah(_) => 6,
         Op::Sqrdmlsh(_) => 7,
+        Op::Sqdmulh(_) => 8,
     }
 }
 
 fn name_number(decoded: Decoded) -> usize
-    ensures { λ r. ⌜ (r < 10) × (nameAt r ≡ nameOf decoded) ⌝ }
+    ensures { λ r. ⌜ (r < 11) × (nameAt r ≡ nameOf decoded) ⌝ }
 {
     match decoded {
         Decoded::Operation(op) => operation_number(op),
-        Decoded::Reserved => 8,
-        Decoded::Outside => 9,
+        Decoded::Reserved => 9,
+        Decoded::Outside => 10,
     }
 }
 
 fn word_number(word: u32) -> usize
-    ensures { λ r. ⌜ (r < 10) × (nameAt r ≡ nameOf (decodeOf word)) ⌝ }
+    ensures { λ r. ⌜ (r < 11) × (nameAt r ≡ nameOf (decodeOf word)) ⌝ }
 {
     name_number(codec::decode(word))
 }
 
 fn put_name(out: &mut [u8], at: usize, n: usize) -> usize
-    requires { ⌜ (n < 10) × (at + 11 ≤ length (now out)) ⌝ }
+    requires { ⌜ (n < 11) × (at + 11 ≤ length (now out)) ⌝ }
     ensures { λ r. ⌜ Wrote (now (out .entry)) at (nameAt n) r (now (out .exit)) ⌝ }
 {
     match n {
@@ -99,7 +100,8 @@ fn put_name(out: &mut [u8], at: usize, n: usize) -> usize
         5 => put_text(out, at, b"SQRDCMLAH-I"),
         6 => put_text(out, at, b"SQRDMLAH"),
         7 => put_text(out, at, b"SQRDMLSH"),
-        8 => put_text(out, at, b"RESERVED"),
+        8 => put_text(out, at, b"SQDMULH"),
+        9 => put_text(out, at, b"RESERVED"),
         _ => put_text(out, at, b"OUTSIDE"),
     }
 }

@@ -3,3 +3,4 @@ pub mod Place
 pub mod Refused
 pub mod Cut
 pub mod Sweep
+pub mod Group

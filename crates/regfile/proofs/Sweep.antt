@@ -22,7 +22,7 @@ use Rattle.isa.proofs.File.{cases, legal-exact}
 use Rattle.isa.proofs.Local.{Near, lane-local, clamps-local, lane-above}
 use Rattle.isa.proofs.Progress.{progress, progress-start, progress-on, progress-end}
 use Rattle.isa.proofs.Fits.{valid-fits}
-use Rattle.isa.proofs.Sources.{made-of, writes-dest, valid-below, made-local}
+use Rattle.isa.proofs.Sources.{made-of, valid-below, made-local}
 use Rattle.regfile.specs.Bytes.{Loaded, Stored, Cleared}
 use Rattle.regfile.specs.Sweep.{Held, Lying, By, Swept, bytesFrom, Touched}
 use Rattle.regfile.proofs.Bytes.{clear-none, clear-more}
@@ -52,7 +52,7 @@ made-written L op k g d n m dest first second =
 -- ---- the loop over the segments
 
 -- a segment starts at q, so it ends within the register
-segment-within : (L q : ℕ) → legal L ≡ true → q % 16 ≡ 0 → q < L / 8 → q + 16 ≤ L / 8
+pub segment-within : (L q : ℕ) → legal L ≡ true → q % 16 ≡ 0 → q < L / 8 → q + 16 ≤ L / 8
 segment-within L q ok aligned more = let whole = legal-exact L .0 ok .whole in omega (arith, aligned)
 
 -- three segments of a short list
@@ -127,7 +127,7 @@ module _ (L : ℕ) (rule : Rule) (d n m : ℕ) (f : List ℕ) (lying : Lying L f
               λ j h. ap (λ x. getD after x 0) (omega (arith, dest)) ∙ stored .inside j h ∙ result j h ∙ sym (w .same (bytesOf x) (bytesOf y) (bytesOf z) j)
               ∙ made-local _ _ _ _ _ _ (near g (d + q) x at-d) (near g (n + q) y at-n) (near g (m + q) z at-m) op fits j h
               ∙ made-written L op (q / 16) g (d + q) (n + q) (m + q) dest first second j in
-              progress-on L (held .ok) op f (held .sized) (q / 16) inner fits (w .sve) (destOf op) (writes-dest op) g after (i .so-far op w)
+              progress-on L (held .ok) op f (held .sized) (q / 16) inner fits (w .sve) (destOf op) (w .only) g after (i .so-far op w)
               (valid-below op (w .valid) .dest) (stored .size ∙ i .sized ∙ held .sized) inside
               (λ x h. stored .low x (omega (arith, dest)))
               (λ x h. stored .high x (omega (arith, dest)))

@@ -1,3 +1,4 @@
 pub mod Place
 pub mod Bytes
 pub mod Sweep
+pub mod Group

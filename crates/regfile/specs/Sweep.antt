@@ -3,10 +3,11 @@ use Prim.Native.Nat.{ℕ, _+_, _*_, _/_, _<_, _≤_}
 use mathlib.Core.Bool.{Bool, true, false}
 use mathlib.Core.List.{List}
 use mathlib.Core.Path.{_≡_}
+use lib.Dec.{eqb}
 use lib.ListN.{length, getD}
 use Rattle.isa.specs.Register.{Bytes}
 use Rattle.isa.specs.declared.types.Op.{Op}
-use Rattle.isa.specs.Meaning.{step, advancedSimd}
+use Rattle.isa.specs.Meaning.{writes, step, advancedSimd}
 use Rattle.isa.specs.File.{legal, byteAt, fileOf}
 use Rattle.isa.specs.Valid.{Valid}
 use Rattle.isa.specs.Sources.{Rule, destOf, firstOf, secondOf, made}
@@ -29,10 +30,11 @@ pub record Lying (L : ℕ) (file : List ℕ) (d n m : ℕ) : Type 0 where
   pub first : n + L / 8 ≤ 4 * L
   pub second : m + L / 8 ≤ 4 * L
 
--- an SVE2 operation by a rule, with its registers at d, n and m
+-- an SVE2 operation by a rule that writes one register, with its registers at d, n and m
 pub record By (L : ℕ) (rule : Rule) (d n m : ℕ) (op : Op) : Type 0 where
   pub valid : Valid op
   pub sve : advancedSimd op ≡ false
+  pub only : (r : ℕ) → writes op r ≡ eqb r (destOf op)
   pub placed : Placed (L / 8) op d n m
   pub same : (c a b : Bytes) (i : ℕ) → made op c a b i ≡ rule c a b i
 

@@ -36,6 +36,10 @@ returns-8 : tie.Need-returns-8
 unfolding patternOf
 returns-8 c = rw (c .before .before .op4 .given .1) (c .element-pattern2 .ensures)
 
+returns-9 : tie.Need-returns-9
+unfolding patternOf
+returns-9 c = rw (c .before .before .op5 .given .1) (c .by-group .ensures .0)
+
 pub pattern-of-spec : {M : Type 1} → statement M
 pattern-of-spec =
     tie.close
@@ -52,6 +56,8 @@ pattern-of-spec =
     (λ c κs. search needs)
     (λ c. search needs)
     (λ c κs. search needs)
+    (λ c. search needs)
+    (λ c κs. search needs)
     returns
     returns-2
     returns-3
@@ -59,4 +65,5 @@ pattern-of-spec =
     returns-5
     returns-6
     returns-7
-    returns-8)
+    returns-8
+    returns-9)

@@ -54,6 +54,12 @@ sized-element-requires-2 c κs =
     let p = few-same (ap valuesOf (c .before .op8 .given .1)) (c .before .before .before .pre) in
     p
 
+grouped-requires : tie.Need-grouped-requires
+unfolding valuesOf
+grouped-requires c κs =
+    let p = few-same (ap valuesOf (c .before .op9 .given .1)) (c .before .before .before .pre) in
+    p
+
 returns : tie.Need-returns
 unfolding valuesOf
 returns c = rw (c .before .before .op .given .1) (c .add-values .ensures)
@@ -86,6 +92,10 @@ returns-8 : tie.Need-returns-8
 unfolding valuesOf
 returns-8 c = rw (c .before .before .op8 .given .1) (c .sized-element2 .ensures)
 
+returns-9 : tie.Need-returns-9
+unfolding valuesOf
+returns-9 c = rw (c .before .before .op9 .given .1) (c .grouped .ensures)
+
 pub values-of-spec : {M : Type 1} → statement M
 values-of-spec =
     tie.close
@@ -106,6 +116,8 @@ values-of-spec =
     sized-element-requires
     (λ c. search needs)
     sized-element-requires-2
+    (λ c. search needs)
+    grouped-requires
     returns
     returns-2
     returns-3
@@ -113,4 +125,5 @@ values-of-spec =
     returns-5
     returns-6
     returns-7
-    returns-8)
+    returns-8
+    returns-9)

@@ -1,7 +1,7 @@
 -- By what writing the packed answers.
 use mathlib.Core.Path.{sym, _∙_}
 use Rattle.grammar.proofs.Written.{writable-word}
-use Rattle.line_writer.proofs.Writing.{by-word, no-size, no-rotation, no-register, no-index}
+use Rattle.line_writer.proofs.Writing.{by-word, no-size, no-rotation, no-register, no-start, no-index}
 use borrow.Author.Needs.{needs}
 use Rattle.line_writer.proofs.write_line.Statement.{statement}
 use Rattle.line_writer.proofs.write_line.Tie as tie
@@ -37,7 +37,12 @@ returns-4 c =
 returns-5 : tie.Need-returns-5
 returns-5 c =
     let encode = c .before .before in
-    no-index (encode .before .before .args .op) (encode .before .before .args .out .now) (encode .encode .result) (encode .encode .ensures) (c .enum-told5 .given .1)
+    no-start (encode .before .before .args .op) (encode .before .before .args .out .now) (encode .encode .result) (encode .encode .ensures) (c .enum-told5 .given .1)
+
+returns-6 : tie.Need-returns-6
+returns-6 c =
+    let encode = c .before .before in
+    no-index (encode .before .before .args .op) (encode .before .before .args .out .now) (encode .encode .result) (encode .encode .ensures) (c .enum-told6 .given .1)
 
 pub write-line-spec : {M : Type 1} → statement M
 write-line-spec =
@@ -51,8 +56,10 @@ write-line-spec =
     (λ c. search needs)
     (λ c. search needs)
     (λ c. search needs)
+    (λ c. search needs)
     returns
     returns-2
     returns-3
     returns-4
-    returns-5)
+    returns-5
+    returns-6)

@@ -34,20 +34,25 @@ returns-9 : tie.Need-returns-9
 returns-9 c = rw (c .before .before .before .before .before .match .keys9) (c .before .before .put-text9 .ensures)
 
 returns-10 : tie.Need-returns-10
-returns-10 c =
+returns-10 c = rw (c .before .before .before .before .before .match .keys10) (c .before .before .put-text10 .ensures)
+
+returns-11 : tie.Need-returns-11
+returns-11 c =
     let arm = c .before .before .before .before .before in
     let start = arm .before .before in
     let n = start .args .n in
     let r = arm .match .rest in
-    let e : n ≡ 9 =
-    arm-last 9 n (start .pre .0)
-    (arm-past 8 n (arm-past 7 n (arm-past 6 n (arm-past 5 n (arm-past 4 n (arm-past 3 n (arm-past 2 n (arm-past 1 n (arm-past 0 n zero-le (r .0 .0 .0 .0 .0 .0 .0 .0 .1)) (r .0 .0 .0 .0 .0 .0 .0 .1)) (r .0 .0 .0 .0 .0 .0 .1)) (r .0 .0 .0 .0 .0 .1)) (r .0 .0 .0 .0 .1)) (r .0 .0 .0 .1)) (r .0 .0 .1)) (r .0 .1)) (r .1)) in
-    rw e (c .before .before .put-text10 .ensures)
+    let e : n ≡ 10 =
+    arm-last 10 n (start .pre .0)
+    (arm-past 9 n (arm-past 8 n (arm-past 7 n (arm-past 6 n (arm-past 5 n (arm-past 4 n (arm-past 3 n (arm-past 2 n (arm-past 1 n (arm-past 0 n zero-le (r .0 .0 .0 .0 .0 .0 .0 .0 .0 .1)) (r .0 .0 .0 .0 .0 .0 .0 .0 .1)) (r .0 .0 .0 .0 .0 .0 .0 .1)) (r .0 .0 .0 .0 .0 .0 .1)) (r .0 .0 .0 .0 .0 .1)) (r .0 .0 .0 .0 .1)) (r .0 .0 .0 .1)) (r .0 .0 .1)) (r .0 .1)) (r .1)) in
+    rw e (c .before .before .put-text11 .ensures)
 
 pub put-name-spec : {M : Type 1} → statement M
 put-name-spec =
     tie.close
     (tie.spec
+    (λ c. search needs)
+    (λ c κs. search needs)
     (λ c. search needs)
     (λ c κs. search needs)
     (λ c. search needs)
@@ -87,4 +92,6 @@ put-name-spec =
     (λ c. search needs)
     returns-9
     (λ c. search needs)
-    returns-10)
+    returns-10
+    (λ c. search needs)
+    returns-11)

@@ -25,6 +25,10 @@ returns-5 : tie.Need-returns-5
 unfolding writtenPacked writtenNumber writtenWord
 returns-5 c = rw (c .enum-told4 .given .1)
 
+returns-6 : tie.Need-returns-6
+unfolding writtenPacked writtenNumber writtenWord
+returns-6 c = rw (c .enum-told5 .given .1)
+
 pub packed-written-spec : {M : Type 1} → statement M
 packed-written-spec =
     tie.close
@@ -35,8 +39,10 @@ packed-written-spec =
     (λ c. search needs)
     (λ c. search needs)
     (λ c. search needs)
+    (λ c. search needs)
     returns
     returns-2
     returns-3
     returns-4
-    returns-5)
+    returns-5
+    returns-6)

@@ -1,6 +1,4 @@
-use mathlib.Core.Path.{_≡_, sym}
 use native.Mathlib.Omega.{arith}
-use Rattle.codec.proofs.Keys.{outside-top}
 use borrow.Author.Needs.{needs}
 use Rattle.codec.proofs.decoder.decode.Statement.{statement}
 use Rattle.codec.proofs.decoder.decode.Tie as tie
@@ -17,6 +15,9 @@ form-of-requires c κs = search needs
 decode-element-requires : tie.Need-decode-element-requires
 decode-element-requires c κs = search needs
 
+decode-group-requires : tie.Need-decode-group-requires
+decode-group-requires c κs = (omega arith, (omega arith, c .match .rest .1))
+
 returns : tie.Need-returns
 returns c = search needs
 
@@ -27,7 +28,7 @@ returns-3 : tie.Need-returns-3
 returns-3 c = search needs
 
 returns-4 : tie.Need-returns-4
-returns-4 c = sym (outside-top (c .before .args .word) (omega arith) (omega arith) (omega arith) (c .match .rest .1))
+returns-4 c = search needs
 
 pub decode-spec : {M : Type 1} → statement M
 decode-spec =
@@ -37,6 +38,7 @@ decode-spec =
     decode-add-requires
     form-of-requires
     decode-element-requires
+    decode-group-requires
     returns
     returns-2
     returns-3

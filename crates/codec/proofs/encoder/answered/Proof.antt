@@ -23,13 +23,21 @@ returns-4 : tie.Need-returns-4
 unfolding answer
 returns-4 c =
     let s = c .before .before .before .before in
-    rw (not-false (s .args .size) (c .before .before .before .if1 .left), not-false (s .args .rotation) (c .before .before .if2 .left), not-false (s .args .registers) (c .before .if3 .left), not-true (s .args .index) (c .if4 .taken))
+    rw (not-false (s .args .size) (c .before .before .before .if1 .left), not-false (s .args .rotation) (c .before .before .if2 .left), not-false (s .args .registers) (c .before .if3 .left), not-true (s .args .start) (c .if4 .taken))
 
 returns-5 : tie.Need-returns-5
 unfolding answer
 returns-5 c =
-    let s = c .before .before .before .before in
-    rw (not-false (s .args .size) (c .before .before .before .if1 .left), not-false (s .args .rotation) (c .before .before .if2 .left), not-false (s .args .registers) (c .before .if3 .left), not-false (s .args .index) (c .if4 .left))
+    let t = c .before in
+    let s = t .before .before .before .before in
+    rw (not-false (s .args .size) (t .before .before .before .if1 .left), not-false (s .args .rotation) (t .before .before .if2 .left), not-false (s .args .registers) (t .before .if3 .left), not-false (s .args .start) (t .if4 .left), not-true (s .args .index) (c .if5 .taken))
+
+returns-6 : tie.Need-returns-6
+unfolding answer
+returns-6 c =
+    let t = c .before in
+    let s = t .before .before .before .before in
+    rw (not-false (s .args .size) (t .before .before .before .if1 .left), not-false (s .args .rotation) (t .before .before .if2 .left), not-false (s .args .registers) (t .before .if3 .left), not-false (s .args .start) (t .if4 .left), not-false (s .args .index) (c .if5 .left))
 
 pub answered-spec : {M : Type 1} → statement M
-answered-spec = tie.close (tie.spec returns returns-2 returns-3 returns-4 returns-5)
+answered-spec = tie.close (tie.spec returns returns-2 returns-3 returns-4 returns-5 returns-6)

@@ -52,6 +52,12 @@ enum-known-op-8 c = search needs
 encode-element-requires-2 : tie.Need-encode-element-requires-2
 encode-element-requires-2 c κs = search needs
 
+enum-known-op-9 : tie.Need-enum-known-op-9
+enum-known-op-9 c = search needs
+
+encode-group-requires : tie.Need-encode-group-requires
+encode-group-requires c κs = search needs
+
 returns : tie.Need-returns
 unfolding encodeOf writeChecks
 returns c = c .encode-add .ensures ∙ sym (ap encodeOf (c .before .before .op .given .1))
@@ -84,6 +90,10 @@ returns-8 : tie.Need-returns-8
 unfolding encodeOf writeChecks
 returns-8 c = c .encode-element2 .ensures ∙ sym (ap encodeOf (c .before .before .op8 .given .1))
 
+returns-9 : tie.Need-returns-9
+unfolding encodeOf writeChecks
+returns-9 c = c .encode-group .ensures ∙ sym (ap encodeOf (c .before .before .op9 .given .1))
+
 pub encode-spec : {M : Type 1} → statement M
 encode-spec =
     tie.close
@@ -104,6 +114,8 @@ encode-spec =
     encode-element-requires
     enum-known-op-8
     encode-element-requires-2
+    enum-known-op-9
+    encode-group-requires
     returns
     returns-2
     returns-3
@@ -111,4 +123,5 @@ encode-spec =
     returns-5
     returns-6
     returns-7
-    returns-8)
+    returns-8
+    returns-9)

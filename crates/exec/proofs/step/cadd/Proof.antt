@@ -5,7 +5,7 @@ use mathlib.Core.Path.{refl}
 use mathlib.Core.Bool.{false}
 use lib.ListN.{getD}
 use Rattle.isa.specs.declared.types.Op.{Op}
-use Rattle.isa.specs.Meaning.{advancedSimd}
+use Rattle.isa.specs.Meaning.{writes, advancedSimd}
 use Rattle.isa.specs.Sources.{addRule, destOf, firstOf, secondOf, made}
 use Rattle.exec.proofs.Operation.{RegistersAt, found, swept-executed, turns}
 use Rattle.exec.proofs.step.cadd.Statement.{statement}
@@ -51,13 +51,13 @@ same-length : tie.Need-same-length
 same-length c = search needs
 
 returns : tie.Need-returns
-unfolding made advancedSimd
+unfolding made advancedSimd writes destOf
 returns c =
     let k = c .before .before in
     let q = k .before .before in
     let s = q .before .before .before .before .before in
     let a = s .args in
-    swept-executed (a .l) (Op.Cadd (a .a)) (s .pre .1 .1) (a .file .now) (s .pre .0) _ _ _ (there q .placed) refl (addRule false (a .a .size) (a .a .rot)) (λ c a b i. refl) _ (k .sums .ensures)
+    swept-executed (a .l) (Op.Cadd (a .a)) (s .pre .1 .1) (λ r. refl) (a .file .now) (s .pre .0) _ _ _ (there q .placed) refl (addRule false (a .a .size) (a .a .rot)) (λ c a b i. refl) _ (k .sums .ensures)
 
 pub cadd-spec : {M : Type 1} → statement M
 cadd-spec =

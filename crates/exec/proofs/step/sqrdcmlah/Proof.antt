@@ -5,7 +5,7 @@ use mathlib.Core.Path.{refl}
 use mathlib.Core.Bool.{true}
 use lib.ListN.{getD}
 use Rattle.isa.specs.declared.types.Op.{Op}
-use Rattle.isa.specs.Meaning.{advancedSimd}
+use Rattle.isa.specs.Meaning.{writes, advancedSimd}
 use Rattle.isa.specs.Sources.{mulRule, destOf, firstOf, secondOf, made}
 use Rattle.exec.proofs.Operation.{RegistersAt, found, swept-executed}
 use Rattle.exec.proofs.step.sqrdcmlah.Statement.{statement}
@@ -62,13 +62,13 @@ same-length : tie.Need-same-length
 same-length c = search needs
 
 returns : tie.Need-returns
-unfolding made advancedSimd
+unfolding made advancedSimd writes destOf
 returns c =
     let k = c .before .before in
     let q = k .before .before in
     let s = q .before .before .before .before .before .before .before in
     let a = s .args in
-    swept-executed (a .l) (Op.Sqrdcmlah (a .a)) (s .pre .1 .1) (a .file .now) (s .pre .0) _ _ _ (there q .placed) refl (mulRule true (a .a .size) (a .a .rot)) (λ c a b i. refl) _ (k .products .ensures)
+    swept-executed (a .l) (Op.Sqrdcmlah (a .a)) (s .pre .1 .1) (λ r. refl) (a .file .now) (s .pre .0) _ _ _ (there q .placed) refl (mulRule true (a .a .size) (a .a .rot)) (λ c a b i. refl) _ (k .products .ensures)
 
 pub sqrdcmlah-spec : {M : Type 1} → statement M
 sqrdcmlah-spec =

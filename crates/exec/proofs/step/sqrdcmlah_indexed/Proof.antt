@@ -7,7 +7,7 @@ use Prim.Native.Nat.{_<_}
 use lib.ListN.{getD}
 use Rattle.isa.specs.Encode.{bySize}
 use Rattle.isa.specs.declared.types.Op.{Op}
-use Rattle.isa.specs.Meaning.{advancedSimd}
+use Rattle.isa.specs.Meaning.{writes, advancedSimd}
 use Rattle.isa.specs.Sources.{indexedRule, destOf, firstOf, secondOf, made}
 use Rattle.exec.proofs.Operation.{RegistersAt, found, swept-executed}
 use Rattle.exec.proofs.step.sqrdcmlah_indexed.Statement.{statement}
@@ -71,14 +71,14 @@ same-length : tie.Need-same-length
 same-length c = search needs
 
 returns : tie.Need-returns
-unfolding made advancedSimd
+unfolding made advancedSimd writes destOf
 returns c =
     let k = c .before .before in
     let w = k .before .before in
     let q = w .before in
     let s = q .before .before .before .before .before .before .before in
     let a = s .args in
-    swept-executed (a .l) (Op.SqrdcmlahIndexed (a .a)) (s .pre .1 .1) (a .file .now) (s .pre .0) _ _ _ (there q .placed) refl (indexedRule true (a .a .size) (w .wide4 .result) (a .a .rot)) (λ c n m i. ap (λ k. indexedRule true (a .a .size) k (a .a .rot) c n m i) (sym (w .wide4 .ensures))) _ (k .indexed .ensures)
+    swept-executed (a .l) (Op.SqrdcmlahIndexed (a .a)) (s .pre .1 .1) (λ r. refl) (a .file .now) (s .pre .0) _ _ _ (there q .placed) refl (indexedRule true (a .a .size) (w .wide4 .result) (a .a .rot)) (λ c n m i. ap (λ k. indexedRule true (a .a .size) k (a .a .rot) c n m i) (sym (w .wide4 .ensures))) _ (k .indexed .ensures)
 
 pub sqrdcmlah-indexed-spec : {M : Type 1} → statement M
 sqrdcmlah-indexed-spec =

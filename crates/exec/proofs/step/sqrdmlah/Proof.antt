@@ -1,12 +1,12 @@
 -- `exec::step::sqrdmlah` meets its contract: the first segment by its function, and the others cleared.
 -- Assumes nothing.
 use borrow.Author.Needs.{needs}
-use mathlib.Core.Path.{sym, subst, _∙_}
+use mathlib.Core.Path.{refl, sym, subst, _∙_}
 use Prim.Native.Nat.{_<_}
 use lib.ListN.{getD}
 use Rattle.isa.specs.Encode.{bySize}
 use Rattle.isa.specs.declared.types.Op.{Op}
-use Rattle.isa.specs.Meaning.{adds}
+use Rattle.isa.specs.Meaning.{writes, adds}
 use Rattle.isa.specs.Sources.{destOf, firstOf, secondOf, made, clampsIn}
 use Rattle.exec.proofs.Operation.{RegistersAt, found, touched-executed, touched-whole}
 use Rattle.exec.proofs.step.sqrdmlah.Statement.{statement}
@@ -82,13 +82,13 @@ same-length : tie.Need-same-length
 same-length c = search needs
 
 returns : tie.Need-returns
-unfolding made clampsIn
+unfolding made clampsIn writes destOf
 returns c =
     let z = c .before .before in
     let k = z .before .before .before .before in
     let s = start k in
     let a = s .args in
-    touched-executed (a .l) (Op.Sqrdmlah (a .a)) (a .file .now) (s .pre .0) _ _ _ (there (placing k) .placed) _ _
+    touched-executed (a .l) (Op.Sqrdmlah (a .a)) (λ r. refl) (a .file .now) (s .pre .0) _ _ _ (there (placing k) .placed) _ _
     (touched-whole (a .a .form) (a .a .size) adds (a .l) (a .file .now) _ _ _ _ _ _ (s .pre .0) (k .before .before .wide4 .ensures) (k .sqrdmlah .ensures) (z .clear-above .ensures))
 
 pub sqrdmlah-spec : {M : Type 1} → statement M

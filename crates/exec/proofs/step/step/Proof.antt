@@ -55,6 +55,29 @@ enum-known-op-8 c = search needs
 sqrdmlsh-requires : tie.Need-sqrdmlsh-requires
 sqrdmlsh-requires c κs = let o = c .before .before in let s = o .before .before .before in (s .pre .0, (s .pre .1 .0, subst Valid (o .op8 .given .1) (s .pre .1 .1)))
 
+enum-known-op-9 : tie.Need-enum-known-op-9
+enum-known-op-9 c = search needs
+
+enum-told : tie.Need-enum-told
+enum-told c = search needs
+
+sqdmulh-two-requires : tie.Need-sqdmulh-two-requires
+sqdmulh-two-requires c κs =
+    let t = c .before in
+    let o = t .before .before .before in
+    let s = o .before .before .before in
+    (s .pre .0, (s .pre .1 .0, (subst Valid (o .op9 .given .1) (s .pre .1 .1), t .enum-told .given .1)))
+
+enum-told-2 : tie.Need-enum-told-2
+enum-told-2 c = search needs
+
+sqdmulh-four-requires : tie.Need-sqdmulh-four-requires
+sqdmulh-four-requires c κs =
+    let t = c .before in
+    let o = t .before .before .before in
+    let s = o .before .before .before in
+    (s .pre .0, (s .pre .1 .0, (subst Valid (o .op9 .given .1) (s .pre .1 .1), t .enum-told2 .given .1)))
+
 same-length : tie.Need-same-length
 same-length c = search needs
 
@@ -103,6 +126,18 @@ same-length-8 c = search needs
 returns-8 : tie.Need-returns-8
 returns-8 c = let k = c .before .before in let o = k .before .before .before in let a = o .before .before .before .args in worked-as (a .l) (a .file .now) _ _ (o .op8 .given .1) (k .sqrdmlsh .ensures)
 
+same-length-9 : tie.Need-same-length-9
+same-length-9 c = search needs
+
+returns-9 : tie.Need-returns-9
+returns-9 c = let k = c .before .before in let o = k .before .before .before .before .before in let a = o .before .before .before .args in worked-as (a .l) (a .file .now) _ _ (o .op9 .given .1) (k .sqdmulh-two .ensures)
+
+same-length-10 : tie.Need-same-length-10
+same-length-10 c = search needs
+
+returns-10 : tie.Need-returns-10
+returns-10 c = let k = c .before .before in let o = k .before .before .before .before .before in let a = o .before .before .before .args in worked-as (a .l) (a .file .now) _ _ (o .op9 .given .1) (k .sqdmulh-four .ensures)
+
 pub step-spec : {M : Type 1} → statement M
 step-spec =
     tie.close
@@ -123,6 +158,11 @@ step-spec =
     sqrdmlah-requires
     enum-known-op-8
     sqrdmlsh-requires
+    enum-known-op-9
+    enum-told
+    sqdmulh-two-requires
+    enum-told-2
+    sqdmulh-four-requires
     same-length
     returns
     same-length-2
@@ -138,4 +178,8 @@ step-spec =
     same-length-7
     returns-7
     same-length-8
-    returns-8)
+    returns-8
+    same-length-9
+    returns-9
+    same-length-10
+    returns-10)

@@ -29,14 +29,18 @@ returns-8 : tie.Need-returns-8
 returns-8 c = c .element-named2 .ensures ∙ family-at (c .before .before .args .n) 7 (c .before .match .keys8)
 
 returns-9 : tie.Need-returns-9
-returns-9 c =
+returns-9 c = c .group-named .ensures ∙ family-at (c .before .before .args .n) 8 (c .before .match .keys9)
+
+returns-10 : tie.Need-returns-10
+returns-10 c =
     let r = c .match .rest in
-    family-rest (c .before .args .n) (r .0 .0 .0 .0 .0 .0 .0 .1) (r .0 .0 .0 .0 .0 .0 .1) (r .0 .0 .0 .0 .0 .1) (r .0 .0 .0 .0 .1) (r .0 .0 .0 .1) (r .0 .0 .1) (r .0 .1) (r .1)
+    family-rest (c .before .args .n) (r .0 .0 .0 .0 .0 .0 .0 .0 .1) (r .0 .0 .0 .0 .0 .0 .0 .1) (r .0 .0 .0 .0 .0 .0 .1) (r .0 .0 .0 .0 .0 .1) (r .0 .0 .0 .0 .1) (r .0 .0 .0 .1) (r .0 .0 .1) (r .0 .1) (r .1)
 
 pub family-named-spec : {M : Type 1} → statement M
 family-named-spec =
     tie.close
     (tie.spec
+    (λ c κs. search needs)
     (λ c κs. search needs)
     (λ c κs. search needs)
     (λ c κs. search needs)
@@ -53,4 +57,5 @@ family-named-spec =
     returns-6
     returns-7
     returns-8
-    returns-9)
+    returns-9
+    returns-10)

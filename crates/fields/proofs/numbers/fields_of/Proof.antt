@@ -35,10 +35,16 @@ returns-8 : tie.Need-returns-8
 unfolding fieldsOf
 returns-8 c = rw (c .before .before .op8 .given .1) (c .element-fields2 .ensures)
 
+returns-9 : tie.Need-returns-9
+unfolding fieldsOf
+returns-9 c = rw (c .before .before .op9 .given .1) (c .group-fields .ensures)
+
 pub fields-of-spec : {M : Type 1} → statement M
 fields-of-spec =
     tie.close
     (tie.spec
+    (λ c. search needs)
+    (λ c κs. search needs)
     (λ c. search needs)
     (λ c κs. search needs)
     (λ c. search needs)
@@ -62,4 +68,5 @@ fields-of-spec =
     returns-5
     returns-6
     returns-7
-    returns-8)
+    returns-8
+    returns-9)

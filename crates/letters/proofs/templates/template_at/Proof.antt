@@ -54,15 +54,23 @@ returns-15 : tie.Need-returns-15
 returns-15 c = arm (c .before .before .before .match .keys15) (c .made15 .ensures) refl (lit≤ tt) refl (lit≤ tt) refl
 
 returns-16 : tie.Need-returns-16
-returns-16 c =
+returns-16 c = arm (c .before .before .before .match .keys16) (c .made16 .ensures) refl (lit≤ tt) refl (lit≤ tt) refl
+
+returns-17 : tie.Need-returns-17
+returns-17 c = arm (c .before .before .before .match .keys17) (c .made17 .ensures) refl (lit≤ tt) refl (lit≤ tt) refl
+
+returns-18 : tie.Need-returns-18
+returns-18 c =
     let start = c .before .before .before .before in
-    let e : start .args .pattern ≡ 15 = omega (arith, past 15 (start .args .pattern) (c .before .before .before .match .rest), start .pre) in
-    arm e (c .made16 .ensures) refl (lit≤ tt) refl (lit≤ tt) refl
+    let e : start .args .pattern ≡ 17 = omega (arith, past 17 (start .args .pattern) (c .before .before .before .match .rest), start .pre) in
+    arm e (c .made18 .ensures) refl (lit≤ tt) refl (lit≤ tt) refl
 
 pub template-at-spec : {M : Type 1} → statement M
 template-at-spec =
     tie.close
     (tie.spec
+    (λ c κs. search needs)
+    (λ c κs. search needs)
     (λ c κs. search needs)
     (λ c κs. search needs)
     (λ c κs. search needs)
@@ -94,4 +102,6 @@ template-at-spec =
     returns-13
     returns-14
     returns-15
-    returns-16)
+    returns-16
+    returns-17
+    returns-18)

@@ -3,6 +3,7 @@ use borrow.Author.Needs.{needs}
 use Prim.Native.Nat.{_-_}
 use mathlib.Core.Path.{refl}
 use lib.ListN.{replicate}
+use Rattle.grammar.specs.Grammar.{patternCount}
 use Rattle.line_reader.proofs.Finding.{Finding, finding-starts, finding-found, finding-on, finding-ends}
 use Rattle.line_reader.proofs.reader.find.Statement.{statement}
 use Rattle.line_reader.proofs.reader.find.Tie as tie
@@ -11,7 +12,7 @@ abbrev Inv-loop : tie.InvT-loop
 Inv-loop s reach furthest₀ pattern₀ furthest pattern = Finding s furthest pattern
 
 abbrev μ-loop : tie.MeasureT-loop
-μ-loop s reach furthest₀ pattern₀ furthest pattern = 16 - pattern
+μ-loop s reach furthest₀ pattern₀ furthest pattern = patternCount - pattern
 
 loop-holds : tie.Need-loop-holds Inv-loop μ-loop
 loop-holds c = finding-starts _ _ (c .before .pre)

@@ -7,8 +7,8 @@ use Rattle.isa.specs.declared.types.Form.{Form}
 use Rattle.isa.specs.declared.types.Op.{Op}
 use Rattle.grammar.specs.Grammar.{elementFrom}
 use Rattle.line_reader.specs.Steps.{valuesIn}
-use Rattle.line_reader.proofs.reader.last_patterns.Statement.{statement}
-use Rattle.line_reader.proofs.reader.last_patterns.Tie as tie
+use Rattle.line_reader.proofs.reader.fourth_patterns.Statement.{statement}
+use Rattle.line_reader.proofs.reader.fourth_patterns.Tie as tie
 
 returns : tie.Need-returns
 returns c = rw (c .before .match .keys1) (ap Op.Sqrdmlsh (c .element-of .ensures))
@@ -27,5 +27,5 @@ returns-4 c =
     let e : start .args .pattern ≡ 15 = omega (arith, r .0 .0 .1, r .0 .1, r .1, start .pre .0, start .pre .1) in
     rw e (ap Op.Sqrdmlsh (c .element-of4 .ensures ∙ ap (λ (f : Form). elementFrom Size.S f 12 9 (valuesIn (c .before .before .before .args .r))) (c .before .vector-by2 .ensures)))
 
-pub last-patterns-spec : {M : Type 1} → statement M
-last-patterns-spec = tie.close (tie.spec (λ c κs. search needs) (λ c κs. search needs) (λ c κs. search needs) (λ c κs. search needs) (λ c κs. search needs) (λ c κs. search needs) returns returns-2 returns-3 returns-4)
+pub fourth-patterns-spec : {M : Type 1} → statement M
+fourth-patterns-spec = tie.close (tie.spec (λ c κs. search needs) (λ c κs. search needs) (λ c κs. search needs) (λ c κs. search needs) (λ c κs. search needs) (λ c κs. search needs) returns returns-2 returns-3 returns-4)
