@@ -1,5 +1,6 @@
 // Assembles the text on standard input: its words go to standard output, as four bytes each or as lines of hexadecimal
 // digits. It stops at the first line that is wrong, and says what is wrong with it. docs/asm.md has the format.
+#![tactic(auto)]
 use assembly::{Assembled, put_fault};
 use libc::{STDERR_FILENO, STDOUT_FILENO};
 use text::{next_line, put_byte, put_number, put_text, put_word, write_start};

@@ -1,4 +1,5 @@
 // One line of an assembly text: the word of its instruction, or what is wrong with it. docs/asm.md has the format.
+#![tactic(auto)]
 mod fault;
 mod instruction;
 mod place;

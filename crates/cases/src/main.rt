@@ -1,6 +1,7 @@
 // Runs the stored cases of standard input, and prints what comes of each. A case begins with six little-endian numbers of 4 bytes: a kind, the vector length, the bytes of the file, the flag, a number, and a seed. Then come the bytes of the file where the seed is 0; any other seed makes the file.
 // Kind 1 runs a program of so many words as the number says, which come last; kind 2 executes the number as a word. Both print the number answered, the words done, the flag and a digest of the file that is left.
 // Kind 3 asks for the register of that number, and prints the number answered, the length and a digest of the part to read, the length of the part to fill, and a digest of the file with that part's bytes complemented.
+#![tactic(auto)]
 ghost use Rattle.std.specs.Prelude.{◌<◌, ◌≤◌};
 ghost use Rattle.io.specs.Counts.{IsPrefixLen};
 

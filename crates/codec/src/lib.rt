@@ -1,4 +1,6 @@
 // Decoding and writing of the instruction words of the nine families, and words from bytes.
+#![tactic(auto)]
+
 mod bytes;
 mod decoder;
 mod encoder;

@@ -1,5 +1,6 @@
 // Decodes and writes the stored cases of standard input, and prints what comes of each: its number, word and fields.
 // A case is little-endian numbers of 4 bytes: a kind, and then the word (kind 1) or the eight fields of an operation (kind 2).
+#![tactic(auto)]
 ghost use Rattle.std.specs.Prelude.{◌<◌};
 
 use fields::types::Named;

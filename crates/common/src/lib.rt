@@ -1,4 +1,6 @@
 // What the kernels of every width share.
+#![tactic(auto)]
+
 pub mod bits16;
 pub mod bits32;
 pub mod bits64;

@@ -1,4 +1,5 @@
 // Writes a line for each instruction word of standard input: an assembly text that gives the same words back. docs/asm.md has the format.
+#![tactic(auto)]
 ghost use Rattle.std.specs.Prelude.{◌≤◌, length};
 
 use codec::word_at;

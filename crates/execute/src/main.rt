@@ -1,5 +1,6 @@
 // Reads a length, a flag, words and registers as text, runs the words, and prints what came of them.
 // docs/execute.md has the format.
+#![tactic(auto)]
 ghost use Rattle.std.specs.Prelude.{◌≤◌};
 
 mod fault;

@@ -1,4 +1,5 @@
 // An operation as eight numbers, as the calls take and give it.
+#![tactic(auto)]
 mod naming;
 mod numbers;
 pub mod types;

@@ -1,7 +1,7 @@
 use isa::types::Op;
 
 // Eight numbers by name.
-#[derive(Drop)]
+#[derive(Clone, Copy)]
 pub struct Numbers {
     pub family: u32,
     pub size: u32,
@@ -14,7 +14,7 @@ pub struct Numbers {
 }
 
 // The operation that they name, if they name one.
-#[derive(Drop)]
+#[derive(Clone, Copy)]
 pub enum Named {
     Operation(Op),
     Nothing,

@@ -1,4 +1,5 @@
 // Standard input: one read, or as many as fill a lent buffer.
+#![tactic(auto)]
 ghost use Rattle.input.specs.Filled.{ReadInto};
 
 use libc::STDIN_FILENO;

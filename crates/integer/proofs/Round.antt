@@ -63,6 +63,7 @@ neg-mag (suc n) p h = h
 
 pub within : (z : ℤ) (H : ℕ) → 0 < H → lt_z z (neg_ℤ (pos H)) ≡ false → lt_z (pos (H - 1)) z ≡ false → mag z < H
 within (pos n) H p e f = omega (arith, ltb-false (H - 1) n f)
+within (negsuc n) zero p e f = absurd (omega arith)
 within (negsuc n) (suc H) p e f = omega (arith, ltb-false H n e)
 
 -- what neither test of a clamp stops is in range

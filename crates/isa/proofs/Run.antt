@@ -129,6 +129,7 @@ module _ (words : List ℕ) (n : ℕ) where
 
   ends-done : Ends words n Ending.Done → n ≡ length words
   ends-done (all h) = h
+  ends-done (stop {d = d} k _ _) = elim k [ ]
 
   ends-all : {e : Ending} → Ends words n e → n ≡ length words → e ≡ Ending.Done
   ends-all (all h) t = refl

@@ -1,4 +1,5 @@
 // The kernels of 64-bit elements on segments of 16 bytes.
+#![tactic(auto)]
 pub mod kernel;
 mod lane;
 mod product;

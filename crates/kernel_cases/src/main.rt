@@ -1,5 +1,6 @@
 // Works the stored cases of standard input with the kernels, and prints the 16 bytes that come of each.
 // A case has 52 bytes: family, size, quarter turns (by element: form) and index; then 16 bytes each of the addend c, the first source n and the second source m. CADD, SQCADD and SQDMULH use no n.
+#![tactic(auto)]
 ghost use Rattle.std.specs.Prelude.{◌≡◌, true};
 ghost use Rattle.isa.specs.Stage.{crossed};
 

@@ -1,3 +1,4 @@
 // What the letters of a template stand for, and the patterns of the grammar, as the code holds them.
+#![tactic(auto)]
 pub mod templates;
 pub mod texts;

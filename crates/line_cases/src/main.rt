@@ -1,6 +1,7 @@
 // Reads and writes the stored lines of standard input, and prints what comes of each. A record is little-endian numbers of 4 bytes, and for kind 1 a text.
 // Kind 1 reads: the text's length and its bytes. It prints the length and the number, and the eight fields of the operation or the length of the longest beginning.
 // Kind 2 writes: a room and the eight fields of an operation. It prints the room, the number, the line's length and all of a buffer whose first bytes are the room.
+#![tactic(auto)]
 ghost use Rattle.std.specs.Prelude.{◌<◌};
 
 use fields::types::Named;

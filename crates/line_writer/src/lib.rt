@@ -1,4 +1,5 @@
 // Writing a line.
+#![tactic(auto)]
 ghost use Rattle.std.specs.Prelude.{◌≡◌, [], ◌∷◌, ◌++◌, map, ◌+◌, ◌/◌, ◌<◌, ◌≤◌, leb, length, take, drop};
 ghost use Rattle.isa.specs.Encode.{by_size};
 ghost use Rattle.grammar.specs.Template.{fill};

@@ -1,4 +1,5 @@
 // Lists the instruction words of standard input on standard output.
+#![tactic(auto)]
 ghost use Rattle.std.specs.Prelude.{◌≤◌};
 
 use isa::types::Listed;

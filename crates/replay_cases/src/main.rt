@@ -3,6 +3,7 @@
 // 2 asks for case b of the trace that the first a bytes are, and prints the check's number and number of cases, and the judgement's number, kind, place and the byte that the run leaves there.
 // 3 hands the same trace to a stream: a piece of b % 65,536 bytes, then pieces of b / 65,536 bytes, as far as there are so many, each behind an empty one. What a call does not take is handed in again.
 // It prints the bytes taken, number, kind and place of each call that tells something, or takes not all; then the same of the calls behind: the number of an end, four numbers of a byte handed in, and the number of an end.
+#![tactic(auto)]
 ghost use Rattle.std.specs.Prelude.{◌≤◌};
 
 use codec::word_at;

@@ -1,5 +1,6 @@
 // Judges the cases of a trace, which is standard input, and prints a line for each.
 // docs/replay.md has the lines.
+#![tactic(auto)]
 mod case;
 mod contents;
 mod name;

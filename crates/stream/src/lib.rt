@@ -1,4 +1,5 @@
 // A trace that comes in pieces: the state that is handed on, and the calls with some bytes and at the end.
+#![tactic(auto)]
 mod bodies;
 mod body;
 pub mod bytes;

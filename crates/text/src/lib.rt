@@ -1,5 +1,6 @@
 // Text in a lent buffer. Each function takes the place to write at, and answers the place past what it wrote.
 // What does not fit is dropped; a program's buffers have room for the longest that it says.
+#![tactic(auto)]
 ghost use Rattle.std.specs.Prelude.{◌<◌, ◌≤◌, length};
 
 pub fn put_byte(out: &mut [u8], at: usize, b: u8) -> usize {

@@ -1,5 +1,5 @@
 // What is said of a case of a trace.
-#[derive(Drop)]
+#[derive(Clone, Copy)]
 pub enum Verdict {
     // The run leaves the file and the flag that were recorded.
     Agrees,
@@ -15,7 +15,7 @@ pub enum Verdict {
 }
 
 // Whether a trace is taken: its number of cases, or the first refusal that applies.
-#[derive(Drop)]
+#[derive(Clone, Copy)]
 pub enum Accepted {
     Cases(usize),
     BadContents,
@@ -23,7 +23,7 @@ pub enum Accepted {
 }
 
 // What asking for a case gives: its verdict, or the first refusal that applies.
-#[derive(Drop)]
+#[derive(Clone, Copy)]
 pub enum Judged {
     Case(Verdict),
     BadContents,
@@ -32,7 +32,7 @@ pub enum Judged {
 }
 
 // How a stream ended: with all bodies whole, or with the first refusal that applies.
-#[derive(Drop)]
+#[derive(Clone, Copy)]
 pub enum End {
     Complete,
     BadContents,
@@ -40,7 +40,7 @@ pub enum End {
 }
 
 // What a call with bytes of a stream tells.
-#[derive(Drop)]
+#[derive(Clone, Copy)]
 pub enum Told {
     Nothing,
     Case(Verdict),

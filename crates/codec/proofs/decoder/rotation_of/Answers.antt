@@ -1,0 +1,6 @@
+use native.Mathlib.Omega.{arith}
+use Rattle.codec.proofs.Keys.{rotation-rest}
+use Rattle.codec.proofs.decoder.rotation_of.Goals as goal
+
+pub returns-in_default : goal.returns-in_default
+returns-in_default c = rotation-rest c.args.n (omega arith)

@@ -1,0 +1,17 @@
+-- `common::product16::biased` meets its contract: the sum is not negative and fits.
+use Rattle.std.proofs.Common.{lit≤, w16}
+use Rattle.integer.proofs.Widen.{wide16, fits-cast}
+use Rattle.integer.proofs.Biased.{fits-biased, cast-biased, biased-is}
+use Rattle.common.proofs.product16.biased.Goals as goal
+
+pub overflow_cast-result : goal.overflow_cast-result
+overflow_cast-result c = fits-cast wide16 c.ranges.a
+
+pub overflow_add-result : goal.overflow_add-result
+overflow_add-result c = fits-biased wide16 c.ranges.a
+
+pub overflow_cast-result-2 : goal.overflow_cast-result-2
+overflow_cast-result-2 c = cast-biased wide16 c.ranges.a w16 (lit≤ tt)
+
+pub returns : goal.returns
+returns c = biased-is wide16 c.ranges.a
