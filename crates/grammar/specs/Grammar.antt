@@ -195,14 +195,14 @@ patterns =
     indexed_pattern Op.SqrdcmlahIndexed Size.S letter_h letter_k "SQRDCMLAH Zd.S, Zn.S, Zh.S[k], #r" ∷
     element_pattern Op.Sqrdmlah Size.H scalar letter_h letter_i "SQRDMLAH Hd, Hn, Vh.H[i]" ∷
     element_pattern Op.Sqrdmlah Size.S scalar letter_m letter_j "SQRDMLAH Sd, Sn, Vm.S[j]" ∷
-    element_pattern Op.Sqrdmlah Size.H (vector_by letter_q) letter_h letter_i "SQRDMLAH Vd.q_h, Vn.q_h, Vh.H[i]" ∷
-    element_pattern Op.Sqrdmlah Size.S (vector_by letter_p) letter_m letter_j "SQRDMLAH Vd.p_s, Vn.p_s, Vm.S[j]" ∷
+    element_pattern Op.Sqrdmlah Size.H (vector_by letter_q) letter_h letter_i "SQRDMLAH Vd.qH, Vn.qH, Vh.H[i]" ∷
+    element_pattern Op.Sqrdmlah Size.S (vector_by letter_p) letter_m letter_j "SQRDMLAH Vd.pS, Vn.pS, Vm.S[j]" ∷
     element_pattern Op.Sqrdmlsh Size.H scalar letter_h letter_i "SQRDMLSH Hd, Hn, Vh.H[i]" ∷
     element_pattern Op.Sqrdmlsh Size.S scalar letter_m letter_j "SQRDMLSH Sd, Sn, Vm.S[j]" ∷
-    element_pattern Op.Sqrdmlsh Size.H (vector_by letter_q) letter_h letter_i "SQRDMLSH Vd.q_h, Vn.q_h, Vh.H[i]" ∷
-    element_pattern Op.Sqrdmlsh Size.S (vector_by letter_p) letter_m letter_j "SQRDMLSH Vd.p_s, Vn.p_s, Vm.S[j]" ∷
-    group_pattern Group.Two letter_a "SQDMULH { Za.t-zb.t }, { Za.t-zb.t }, Zh.t" ∷
-    group_pattern Group.Four letter_e "SQDMULH { Ze.t-zf.t }, { Ze.t-zf.t }, Zh.t" ∷ []
+    element_pattern Op.Sqrdmlsh Size.H (vector_by letter_q) letter_h letter_i "SQRDMLSH Vd.qH, Vn.qH, Vh.H[i]" ∷
+    element_pattern Op.Sqrdmlsh Size.S (vector_by letter_p) letter_m letter_j "SQRDMLSH Vd.pS, Vn.pS, Vm.S[j]" ∷
+    group_pattern Group.Two letter_a "SQDMULH { Za.t-Zb.t }, { Za.t-Zb.t }, Zh.t" ∷
+    group_pattern Group.Four letter_e "SQDMULH { Ze.t-Zf.t }, { Ze.t-Zf.t }, Zh.t" ∷ []
 
 abbrev pub pattern_count : ℕ
 pattern_count = 18

@@ -10,7 +10,7 @@ pub overflow_cast-b : goal.overflow_cast-b
 overflow_cast-b c = fits-cast wide8 c.ranges.b
 
 pub overflow_cast-result : goal.overflow_cast-result
-overflow_cast-result c = fits_wider wide8 w32 c.ranges.a c.ranges.b c.product.type-inv c.product.ensures
+overflow_cast-result c = fits_wider wide8 w32 c.ranges.a c.ranges.b c.product.type_inv c.product.ensures
 
 pub returns : goal.returns
-returns c = read-wider wide8 w32 c.ranges.a c.ranges.b c.product.type-inv c.product.ensures
+returns c = read-wider wide8 w32 c.ranges.a c.ranges.b c.product.type_inv c.product.ensures
