@@ -200,7 +200,11 @@ class Function:
                 parts = m.group(2)[1:].split('.')
                 if m.group(1) in known:
                     new = self.path(known[m.group(1)], parts)
-                    out += '.'.join(['c'] + new)
+                    whole = '.'.join(['c'] + new)
+                    if re.search(r'-own\.keys\d+$', whole):
+                        whole = '(opened %s)' % whole
+                    whole = re.sub(r'(\.(?:wrapping|overflowing|checked|saturating)_\w+(?:-[\w-]+)?\.ensures)$', r'\1.value', whole)
+                    out += whole
                 elif m.group(1) in arguments_of:
                     out += '.'.join([m.group(1), self.params.get(canon(parts[0]), parts[0])] + parts[1:])
                 else:
@@ -373,6 +377,8 @@ def convert(folder, names, crate, all_labels):
                 if any(re.match(r'\(λ', a) and 'search rules' not in a for a in args):
                     print('    some are written in the call')
     body = '\n'.join(out)
+    if '(opened c.' in body:
+        uses.insert(0, 'use borrow.Enum.Refused.{opened}')
 
     def wanted(lines, t):
         kept = []

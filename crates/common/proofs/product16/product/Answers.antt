@@ -7,4 +7,4 @@ pub overflow_cast-a : goal.overflow_cast-a
 overflow_cast-a c = fits-cast wide16 c.ranges.a
 
 pub returns : goal.returns
-returns c = biased-product wide16 c.ranges.a c.ranges.b c.biased-u.ensures.0 c.biased-v.ensures.0 c.multiply.ensures c.wrapping_sub_u32-p.type_inv c.wrapping_sub_u32.type_inv c.wrapping_sub_u32-p.ensures c.to_bits.ensures c.wrapping_sub_u32.ensures c.of_bits.type_inv c.of_bits.ensures
+returns c = biased-product wide16 c.ranges.a c.ranges.b c.biased-u.ensures.0 c.biased-v.ensures.0 c.multiply.ensures c.wrapping_sub_u32-p.type_inv c.wrapping_sub_u32.type_inv c.wrapping_sub_u32-p.ensures.value c.to_bits.ensures c.wrapping_sub_u32.ensures.value c.of_bits.type_inv c.of_bits.ensures

@@ -1,4 +1,5 @@
 -- `regfile::part::part_of` meets its contract: a register that is there ends within the file, and a refusal cuts out nothing.
+use borrow.Enum.Refused.{opened}
 use mathlib.Core.Path.{◌≡◌, sym, ◌∙◌}
 use native.Mathlib.Omega.{arith}
 use Rattle.isa.specs.declared.types.Asked.{Asked}
@@ -10,7 +11,7 @@ use Rattle.regfile.proofs.part.part_of.Goals as goal
 
 pub returns-in_default : goal.returns-in_default
 returns-in_default c = let a = c.args in
-    cut-refused a.l a.size a.n c.check_register.result (sym c.check_register.ensures) (refused c.check_register.result c.in_default.in_default-own.keys2)
+    cut-refused a.l a.size a.n c.check_register.result (sym c.check_register.ensures) (refused c.check_register.result (opened c.in_default.in_default-own.keys2))
 
 pub offset-a-requires : goal.offset-a-requires
 offset-a-requires c =
