@@ -136,8 +136,8 @@ class Function:
             if self.pre and rest and rest[0].isdigit():
                 rest = [self.pre[int(rest[0])]] + rest[1:]
             return [head] + rest
-        if head in ('auto', 'type_inv', 'well_formed'):
-            return [head] + rest
+        if canon(head) in ('auto', 'type-inv', 'well-formed'):
+            return [head.replace('-', '_')] + rest
         new, rest, callee = self.step(place, head, rest)
         rest = ['type_inv' if x in ('type-inv', 'type_inv') else x for x in rest]
         if callee and len(rest) > 1 and rest[0] == 'ensures' and rest[1].isdigit():
@@ -308,7 +308,8 @@ def convert(folder, names, crate, all_labels):
             eq = parts[-1]
             k = re.match(r"%s\s+(.*?)\s*=\s*(.*)" % re.escape(name), eq, re.S)
             params, body = k.group(1).split(), k.group(2)
-            plain = {p for p in params if not p.endswith('₀')}
+            bound = {w for m in re.findall(r'λ ([^.]*)\.', body) for w in m.split()}
+            plain = {p for p in params if not p.endswith('₀')} - bound
             start = {p for p in params if p.endswith('₀')}
 
             def var(mm):
@@ -320,7 +321,10 @@ def convert(folder, names, crate, all_labels):
                 return w
             arg_names = set(f_args.get('.'.join(rel), []))
             pattern = r"(?<![\w.'-])[^\W\d][\w'₀-]*"
+            for p in f_signed.get('.'.join(rel), []):
+                body = re.sub(r"to_z w\d+ %s(?![\w'])" % re.escape(p), p, body)
             body = re.sub(pattern, var, body)
+            body = re.sub(r'\((l\.[\w.]+)\)', r'\1', body)
             unf = [p for p in parts[1:-1]]
             inv.append('\n'.join(['abbrev pub %s : goal.%s' % (goal, goal)] + unf + ['%s l = %s' % (goal, body)]))
         elif m:
@@ -435,6 +439,7 @@ def arguments(text):
 
 
 f_args = {}
+f_signed = {}
 
 
 def read_args(crate):
@@ -450,6 +455,8 @@ def read_args(crate):
             owner = None
             for o in re.finditer(r'^impl(?:<[^>]*>)? (\w+)', text[:m.start()], re.M):
                 owner = o.group(1)
+            f_signed['.'.join(module + ([owner] if owner else []) + [m.group(1)])] = re.findall(r'(\w+): i(?:8|16|32|64)\b', m.group(2))
+            f_signed['.'.join(module + [m.group(1)])] = re.findall(r'(\w+): i(?:8|16|32|64)\b', m.group(2))
             if owner:
                 f_args['.'.join(module + [owner, m.group(1)])] = params
 

@@ -49,6 +49,10 @@ element32 b e k p = ap (signed 32) (omega (arith, ap b p, ap b p1, ap b p2, ap b
 pub taken : (w : Width) (n : List ℤ) {u : ℕ} (i j : ℕ) → u ≡ of_z w (lane n i) → mag (lane n i) < 2 ^ hbits w → i ≡ j → to_z w u ≡ lane n j
 taken w n i j e h p = ap (to_z w) e ∙ kept w (lane n i) h ∙ ap (lane n) p
 
+-- the same of the number that the bits stand for
+pub taken-read : (w : Width) (n : List ℤ) {z : ℤ} (i j : ℕ) → z ≡ to_z w (of_z w (lane n i)) → mag (lane n i) < 2 ^ hbits w → i ≡ j → z ≡ lane n j
+taken-read w n i j e h p = e ∙ kept w (lane n i) h ∙ ap (lane n) p
+
 pub first-odd : {odd : Bool} (e : ℕ) → odd ≡ true → e - e % 2 + 1 ≡ first_place odd e
 unfolding first_place
 first-odd e t = rw t (omega arith)

@@ -1,0 +1,13 @@
+-- `kernel16::segment::narrowed` meets its contract: after e turns the first e lanes are clamped.
+use Prim.Native.Nat.{◌-◌}
+use lib.IntN.{pos}
+use Rattle.integer.specs.Number.{clamp}
+use Rattle.isa.specs.Stage.{lane}
+use Rattle.isa.proofs.Made.{Made}
+use Rattle.kernel16.proofs.segment.narrowed.Given as goal
+
+abbrev pub invariant-loop-e : goal.invariant-loop-e
+invariant-loop-e l = Made (pos 0) 8 l.e (λ k. clamp 16 (lane l.s k)) l.r
+
+abbrev pub decreases-loop-e : goal.decreases-loop-e
+decreases-loop-e l = 8 - l.e

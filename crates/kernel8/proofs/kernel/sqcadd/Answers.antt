@@ -1,0 +1,13 @@
+-- `kernel8::kernel::sqcadd` meets its contract: the stages make the definition.
+use mathlib.Core.Path.{refl}
+use Rattle.integer.specs.Number.{clamp}
+use Rattle.integer.specs.Lane.{clamped}
+use Rattle.isa.specs.declared.types.Size.TheVariants.{B}
+use Rattle.isa.specs.Meaning.{sqcadd_of}
+use Rattle.isa.proofs.Pair.{sums}
+use Rattle.kernel8.proofs.kernel.sqcadd.Goals as goal
+
+pub returns : goal.returns
+unfolding sqcadd_of clamped
+returns c = sums B (clamp 8) (clamped 8) (λ a b. refl) c.args.rot c.requires c.minus_real.ensures c.minus_imaginary.ensures
+    c.lanes-x.ensures c.lanes.ensures c.swapped-z.ensures c.sats.ensures c.bytes.ensures
