@@ -1,5 +1,6 @@
 // The kernels of 64-bit elements on segments of 16 bytes.
 #![tactic(auto)]
+
 pub mod kernel;
 mod lane;
 mod product;

@@ -1,12 +1,12 @@
 use mathlib.Core.Path.{refl}
-use mathlib.Core.Logic.{⊎_elim}
 use Prim.Native.Nat.{◌-◌}
 use native.Mathlib.Omega.{arith}
 use mir.Syntax.{w16}
 use Rattle.isa.specs.Register.{pairs}
 use Rattle.isa.proofs.Made.{made_none, made_more, made_all}
-use Rattle.isa.proofs.Places.{taken, first-odd, first-even}
+use Rattle.isa.proofs.Places.{taken-read, first-odd, first-even}
 use Rattle.kernel16.proofs.segment.doubled.Goals as goal
+use Rattle.kernel16.proofs.segment.doubled.Goals.{then-odd, else-odd}
 
 pub loop-e-init : goal.loop-e-init
 loop-e-init c = made_none refl
@@ -15,7 +15,10 @@ pub loop-e-preserved : goal.loop-e-preserved
 loop-e-preserved c = let a = c.args in
     let l = c.loop-e in
     made_more l.invariant (omega arith) _
-    (⊎_elim (λ w. taken w16 a.n _ _ w.2 w.1.given (first-odd l.e w.0.taken)) (λ w. taken w16 a.n _ _ w.2 w.1.given (first-even l.e w.0.left)) c.if-odd.branch)
+    (elim c.if-odd.branch [
+      then-odd w ↦ taken-read w16 a.n _ _ w.r-is w.r-1.given (first-odd l.e w.if-odd.true)
+    | else-odd w ↦ taken-read w16 a.n _ _ w.r-is w.r-else-odd-1.given (first-even l.e w.if-odd.false)
+    ])
 
 pub returns : goal.returns
 unfolding pairs

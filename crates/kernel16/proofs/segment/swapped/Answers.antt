@@ -1,12 +1,12 @@
 use mathlib.Core.Path.{refl, ◌∙◌}
-use mathlib.Core.Logic.{⊎_elim}
 use Prim.Native.Nat.{◌-◌}
 use native.Mathlib.Omega.{arith}
 use mir.Syntax.{w16}
 use Rattle.isa.specs.Register.{pairs}
 use Rattle.isa.proofs.Made.{made_none, made_more, made_all}
-use Rattle.isa.proofs.Places.{taken, second-odd, second-even}
+use Rattle.isa.proofs.Places.{taken-read, second-odd, second-even}
 use Rattle.kernel16.proofs.segment.swapped.Goals as goal
+use Rattle.kernel16.proofs.segment.swapped.Goals.{then-odd, else-odd}
 
 pub loop-e-init : goal.loop-e-init
 loop-e-init c = made_none refl
@@ -21,7 +21,10 @@ pub loop-e-preserved : goal.loop-e-preserved
 loop-e-preserved c = let a = c.args in
     let l = c.loop-e in
     made_more l.invariant (omega arith) _
-    (⊎_elim (λ w. taken w16 a.m _ _ w.3 w.2.given (w.1.ensures ∙ second-odd l.e w.0.taken)) (λ w. taken w16 a.m _ _ w.2 w.1.given (second-even l.e w.0.left)) c.if-odd.branch)
+    (elim c.if-odd.branch [
+      then-odd w ↦ taken-read w16 a.m _ _ w.r-is w.r-1.given (w.partner.ensures ∙ second-odd l.e w.if-odd.true)
+    | else-odd w ↦ taken-read w16 a.m _ _ w.r-is w.r-else-odd-1.given (second-even l.e w.if-odd.false)
+    ])
 
 pub returns : goal.returns
 unfolding pairs

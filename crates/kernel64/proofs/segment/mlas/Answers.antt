@@ -1,0 +1,20 @@
+use Rattle.std.proofs.Common.{◌-◌, refl, arith, w64}
+use Rattle.integer.specs.Lane.{wrapped}
+use Rattle.integer.proofs.Read.{read-product}
+use Rattle.isa.specs.Register.{pairs}
+use Rattle.isa.specs.Stage.{lane, minus_at}
+use Rattle.isa.proofs.Made.{made_none, made_more, made_all}
+use Rattle.kernel64.proofs.segment.mlas.Goals as goal
+
+pub loop-e-init : goal.loop-e-init
+loop-e-init c = made_none refl
+
+pub loop-e-preserved : goal.loop-e-preserved
+loop-e-preserved c = let l = c.loop-e in
+    let a = c.args in
+    made_more l.invariant (omega arith) _
+    (read-product w64 (wrapped 64) (lane a.x l.e) (lane a.y l.e) (lane a.z l.e) c.mla.type_inv c.mla-arg-1.given c.mla-arg-in-loop-e-1.given c.mla-arg-in-loop-e-2-1.given c.minus_at.ensures c.mla.ensures)
+
+pub returns : goal.returns
+unfolding pairs
+returns c = record { at = made_all c.loop-e.invariant (omega arith) }
