@@ -14,7 +14,9 @@ text_at-requires c = let row = c.args.row in
     omega (arith, c.first_in.ensures, stepped c.args.v c.shift_in.result (row / 256 % 256) c.shift_in.ensures, c.requires.0.within c.args.v c.requires.1)
 
 pub overflow_add-first_in : goal.overflow_add-first_in
-overflow_add-first_in c = record { fits = omega (arith, within c tt) }
+overflow_add-first_in c =
+    let row = c.args.row in
+    omega (arith, c.first_in.ensures, stepped c.args.v c.shift_in.result (row / 256 % 256) c.shift_in.ensures, c.requires.0.within c.args.v c.requires.1)
 
 pub returns : goal.returns
 returns c = let row = c.args.row in
