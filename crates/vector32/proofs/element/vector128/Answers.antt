@@ -1,0 +1,21 @@
+-- `vector32::element::vector128` meets its contract.
+use native.Mathlib.Omega.{arith}
+use mir.Syntax.{w32}
+use Prim.Native.Nat.{ℕ, ◌*◌, ◌<◌}
+use Rattle.integer.proofs.Word.{kept}
+use mathlib.Core.Path.{◌∙◌}
+use Rattle.isa.specs.declared.types.Form.TheVariants.{Vector128}
+use Rattle.isa.specs.declared.types.Size.TheVariants.{S}
+use Rattle.isa.specs.Register.{pairs}
+use Rattle.regfile.proofs.Sweep.{touched}
+use Rattle.vector32.proofs.element.vector128.Goals as goal
+
+small : (index : ℕ) → index < 4 → index < 2 * pairs S
+unfolding pairs
+small index h = omega arith
+
+pub returns : goal.returns
+returns c = let a = c.args in
+    touched Vector128 S a.index a.minus (small a.index c.requires.index_bound) a.file.now a.d a.n a.m c.read16-x.result c.read16-y.result _
+    c.vector128-s.result.bytes c.write16.new.s c.vector128-s.result.clamped c.read16-x.ensures c.read16-y.ensures
+    (kept w32 _ c.element_at-b.type_inv ∙ c.element_at-b.ensures) c.vector128-s.ensures c.write16.ensures
