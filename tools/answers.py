@@ -16,7 +16,7 @@ NAME = r"[^\W\d][\w'-]*"
 
 
 def canon(name):
-    name = name.replace('type_size', 'size-of').replace('_', '-')
+    name = name.replace('type_size', 'size-of').replace('_', '-').lower()
     return re.sub(r'([a-z])-(\d+)$', r'\1\2', name)
 
 
@@ -213,7 +213,8 @@ class Function:
                 continue
             m = word.match(text, i)
             if m:
-                out += root.get(m.group(0), m.group(0))
+                field = re.match(r'\s*=(?!=)', text[m.end():]) and not re.search(r'let $', out)
+                out += m.group(0) if field else root.get(m.group(0), m.group(0))
                 i = m.end()
                 continue
             out += text[i]

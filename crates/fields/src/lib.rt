@@ -1,5 +1,6 @@
 // An operation as eight numbers, as the calls take and give it.
 #![tactic(auto)]
+
 mod naming;
 mod numbers;
 pub mod types;

@@ -1,5 +1,6 @@
 // Writing a line.
 #![tactic(auto)]
+
 ghost use Rattle.std.specs.Prelude.{◌≡◌, [], ◌∷◌, ◌++◌, map, ◌+◌, ◌/◌, ◌<◌, ◌≤◌, leb, length, take, drop};
 ghost use Rattle.isa.specs.Encode.{by_size};
 ghost use Rattle.grammar.specs.Template.{fill};
