@@ -21,7 +21,7 @@ overflow_add-result c = let x = c.args.x in
     let v = c.value_at-v.result in
     let p : RowOf x c.row_of-row.result = record { low = c.requires.0; is = c.row_of-row.ensures } in
     let read = value_read x c.slot_of-slot.result c.args.values.now c.args.s.now c.args.at v c.slot_of-slot.ensures.0 c.slot_of-slot.ensures.1 c.requires.2 (c.value_at-v.ensures x p) in
-    let said = text-stands v p (text_in-requires c tt).1 c.text_in-packed.ensures in
+    let said = text-stands v p (text_in-packed-requires (goal.at.overflow_add-result c).After-value_at-v).1 c.text_in-packed.ensures in
     record {
       fits = omega (
         arith,
@@ -35,7 +35,7 @@ returns c = let x = c.args.x in
     let v = c.value_at-v.result in
     let p : RowOf x c.row_of-row.result = record { low = c.requires.0; is = c.row_of-row.ensures } in
     let read = value_read x c.slot_of-slot.result c.args.values.now c.args.s.now c.args.at v c.slot_of-slot.ensures.0 c.slot_of-slot.ensures.1 c.requires.2 (c.value_at-v.ensures x p) in
-    let said = text-stands v p (text_in-requires c tt).1 c.text_in-packed.ensures in
+    let said = text-stands v p (text_in-packed-requires (goal.at.returns c).After-value_at-v).1 c.text_in-packed.ensures in
     rw c.slot_of-slot.ensures.0
     (variable-steps x c.args.values.now c.args.s.now c.args.at v c.text_in-packed.result c.along-n.result c.length_of.result
     c.requires.1 (omega (arith, c.slot_of-slot.ensures.0, c.slot_of-slot.ensures.1)) c.requires.2 read said c.along-n.ensures c.length_of.ensures)

@@ -11,7 +11,7 @@ pub returns-in-1 : goal.returns-in-1
 returns-in-1 c = rw c.in-1.is (ap Op.Cmla c.mul_of.ensures)
 
 pub returns-in-2 : goal.returns-in-2
-returns-in-2 c = rw c.in-2.is (ap Op.CmlaIndexed c.Indexed-of.ensures)
+returns-in-2 c = rw c.in-2.is (ap Op.CmlaIndexed c.indexed_of.ensures)
 
 pub returns-in_default : goal.returns-in_default
 returns-in_default c = let r = c.in_default.in_default-own.rest in

@@ -22,7 +22,7 @@ grouped g x r zdn a low sized e is =
     ap Op.Sqdmulh (is ∙ (λ i. record { size = size_of (values_in r letter_t); zm = values_in r letter_h; zdn = first i; group = g }))
 
 pub returns-in-16 : goal.returns-in-16
-returns-in-16 c = rw c.in-16.is (grouped Group.Two letter_a c.args.r c.first_of_two.result c.Group-of.result (omega arith) c.requires.2 c.first_of_two.ensures c.Group-of.ensures)
+returns-in-16 c = rw c.in-16.is (grouped Group.Two letter_a c.args.r c.first_of_two.result c.group_of.result (omega arith) c.requires.2 c.first_of_two.ensures c.group_of.ensures)
 
 pub returns-in_default : goal.returns-in_default
 returns-in_default c = let e : c.args.pattern ≡ 17 = omega (arith, c.in_default.in_default-own.rest.1, c.requires.0, c.requires.1) in

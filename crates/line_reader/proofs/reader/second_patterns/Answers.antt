@@ -11,7 +11,7 @@ pub returns-in-5 : goal.returns-in-5
 returns-in-5 c = rw c.in-5.is (ap Op.Sqrdcmlah c.mul_of.ensures)
 
 pub returns-in-6 : goal.returns-in-6
-returns-in-6 c = rw c.in-6.is (ap Op.SqrdcmlahIndexed c.Indexed-of.ensures)
+returns-in-6 c = rw c.in-6.is (ap Op.SqrdcmlahIndexed c.indexed_of.ensures)
 
 pub returns-in_default : goal.returns-in_default
 returns-in_default c = let r = c.in_default.in_default-own.rest in
