@@ -1,5 +1,6 @@
 // The listing of instruction words: lines of text in a lent buffer.
 #![tactic(auto)]
+
 ghost use Rattle.std.specs.Prelude.{◌≡◌, ◌++◌, ◌+◌, ◌-◌, ◌*◌, ◌/◌, ◌<◌, ◌≤◌, leb, ltb, length, take};
 ghost use Rattle.listing.specs.Listing.{ascii, hex_digit, hex_of, operation_name, name_of, word_line, lines_of, decimal_of, count_line, tail_line, limit, over_of, last_of, more_of};
 ghost use Rattle.listing.specs.Call.{Wrote, name_at, text_outcome, outcome_of_part};

@@ -1,5 +1,6 @@
 // The check of a recorder's trace, and the verdict of a case.
 #![tactic(auto)]
+
 pub mod body;
 pub mod compare;
 pub mod contents;

@@ -1,4 +1,5 @@
 -- The value, its text and how far it goes are those of the definition.
+use Prim.Native.Nat.{◌/◌, ◌%◌, ◌<◌}
 use native.Mathlib.Omega.{arith}
 use Rattle.grammar.specs.Packed.{RowOf}
 use Rattle.grammar.proofs.Alphabet.{letter-fits}
@@ -21,7 +22,8 @@ overflow_add-result c = let x = c.args.x in
     let v = c.value_at-v.result in
     let p : RowOf x c.row_of-row.result = record { low = c.requires.0; is = c.row_of-row.ensures } in
     let read = value_read x c.slot_of-slot.result c.args.values.now c.args.s.now c.args.at v c.slot_of-slot.ensures.0 c.slot_of-slot.ensures.1 c.requires.2 (c.value_at-v.ensures x p) in
-    let said = text-stands v p (text_in-packed-requires (goal.at.overflow_add-result c).After-value_at-v).1 c.text_in-packed.ensures in
+    let inside : v < c.row_of-row.result / 65536 % 256 = omega (arith, row_count v p, letter-fits x v (value_low x c.args.values.now c.args.s.now c.args.at v c.requires.2 read)) in
+    let said = text-stands v p inside c.text_in-packed.ensures in
     record {
       fits = omega (
         arith,
@@ -35,7 +37,8 @@ returns c = let x = c.args.x in
     let v = c.value_at-v.result in
     let p : RowOf x c.row_of-row.result = record { low = c.requires.0; is = c.row_of-row.ensures } in
     let read = value_read x c.slot_of-slot.result c.args.values.now c.args.s.now c.args.at v c.slot_of-slot.ensures.0 c.slot_of-slot.ensures.1 c.requires.2 (c.value_at-v.ensures x p) in
-    let said = text-stands v p (text_in-packed-requires (goal.at.returns c).After-value_at-v).1 c.text_in-packed.ensures in
+    let inside : v < c.row_of-row.result / 65536 % 256 = omega (arith, row_count v p, letter-fits x v (value_low x c.args.values.now c.args.s.now c.args.at v c.requires.2 read)) in
+    let said = text-stands v p inside c.text_in-packed.ensures in
     rw c.slot_of-slot.ensures.0
     (variable-steps x c.args.values.now c.args.s.now c.args.at v c.text_in-packed.result c.along-n.result c.length_of.result
     c.requires.1 (omega (arith, c.slot_of-slot.ensures.0, c.slot_of-slot.ensures.1)) c.requires.2 read said c.along-n.ensures c.length_of.ensures)
