@@ -144,6 +144,10 @@ class Function:
             kinds = self.labels.get(callee, {}).get('ensures', [])
             if len(kinds) > 1:
                 rest = ['ensures', kinds[int(rest[1])]] + rest[2:]
+        if callee and len(rest) > 1 and rest[0] == 'auto' and rest[1].isdigit():
+            muts = self.labels.get(callee, {}).get('muts', [])
+            if len(muts) > int(rest[1]):
+                rest = ['auto', muts[int(rest[1])]] + rest[2:]
         if callee and len(rest) > 1 and rest[0] == 'new' and rest[1].isdigit():
             muts = self.labels.get(callee, {}).get('muts', [])
             if muts:
@@ -151,6 +155,37 @@ class Function:
         if len(rest) > 1 and rest[0] in ('loop',):
             pass
         return [new] + rest
+
+    def as_record(self, goal, body):
+        """What a call requires under several labels is a record of them, where it was a tuple."""
+        m = re.match(r'(\w+)(?:-[\w-]+?)?-requires', goal)
+        callee = [c for c in self.names['params'] if m and c.split('::')[-1] == m.group(1)]
+        labels = self.labels.get(callee[0], {}).get('requires', []) if callee else []
+        if len(labels) < 2 or not all(labels):
+            return body
+        text = body.rstrip()
+        if not text.endswith(')'):
+            return body
+        depth = 0
+        for i in range(len(text) - 1, -1, -1):
+            depth += (text[i] == ')') - (text[i] == '(')
+            if not depth:
+                break
+        if i and not re.search(r'(^|\bin\s*|=\s*|^\s*)$', text[:i].rstrip(' \n')) and text[:i].strip() and not text[:i].rstrip().endswith(' in'):
+            return body
+        parts, rest = [], text[i:]
+        for k in range(len(labels) - 1):
+            items = commas(rest.strip()[1:-1])
+            if len(items) != 2 and not (len(items) == len(labels) and k == 0):
+                return body
+            if len(items) == len(labels) and k == 0 and len(labels) > 2:
+                parts = items
+                break
+            parts.append(items[0])
+            rest = items[1]
+        if len(parts) < len(labels):
+            parts.append(rest.strip())
+        return text[:i] + 'record { %s }' % '; '.join('%s = %s' % (l, p.strip()) for l, p in zip(labels, parts))
 
     def up(self, place, befores):
         for _ in range(befores):
@@ -345,6 +380,7 @@ def convert(folder, names, crate, all_labels):
             args = [a for a in args if a not in ('κs', 'κ')]
             f.opened = set()
             body = f.body(body, {args[-1]: f.index.get(f.at[goal])})
+            body = f.as_record(goal, body)
             args[-1] = 'c'
             missing = sorted(f.opened - {w for u in unf for w in u.split()[1:]})
             if missing:
@@ -419,6 +455,18 @@ def convert(folder, names, crate, all_labels):
     if not inv and not out:
         os.rmdir(folder)
     return 'turned'
+
+
+def commas(text):
+    out, depth, word = [], 0, ''
+    for ch in text:
+        depth += (ch in '([{') - (ch in ')]}')
+        if ch == ',' and not depth:
+            out.append(word)
+            word = ''
+        else:
+            word += ch
+    return out + ([word] if word.strip() else [])
 
 
 def arguments(text):

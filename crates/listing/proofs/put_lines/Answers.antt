@@ -7,7 +7,7 @@ loop-k-init c = putting-starts _ _ _
 
 pub loop-k-preserved : goal.loop-k-preserved
 loop-k-preserved c = putting-on c.loop-k.invariant c.loop-k-test.true c.requires.0 c.requires.1 c.well_formed.1.0.0
-    c.word_at.ensures c.put_line-at.auto.0 c.put_line-at.ensures
+    c.word_at.ensures c.put_line-at.auto.out c.put_line-at.ensures
 
 pub shape_of-out : goal.shape_of-out
 shape_of-out c = c.loop-k.invariant.sized
