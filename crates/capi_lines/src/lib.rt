@@ -1,3 +1,4 @@
 // The calls that write and read lines, for programs in C, C++ and Rust. A crate of its own, so that the other calls are compiled as they were.
 #![tactic(auto)]
+
 pub mod calls;
