@@ -10,26 +10,24 @@ use Rattle.regfile.specs.Sweep.{Touched}
 use Rattle.regfile.proofs.Sweep.{touched-as}
 use Rattle.vector32.proofs.element.sqrdmlah.Goals as goal
 
+-- the form that was matched
+by_form : (form f : Form) (index : ℕ) (file : List ℕ) (d n m : ℕ) (after : List ℕ) (r : Bool) → form ≡ f →
+    Touched 16 (lane_bytes f S index adds) (lane_clamps f S index adds) file d n m after r →
+    Touched 16 (lane_bytes form S index adds) (lane_clamps form S index adds) file d n m after r
+by_form form f index file d n m after r e t =
+    touched-as 16 (λ f. lane_bytes f S index adds) (λ f. lane_clamps f S index adds) file d n m after r e t
+
 pub returns-in-Scalar : goal.returns-in-Scalar
 returns-in-Scalar c =
-    let by_form : {f : Form} {after : List ℕ} {r : Bool} → let a = c.args in
-    a.form ≡ f → Touched 16 (lane_bytes f S a.index adds) (lane_clamps f S a.index adds) a.file.now a.d a.n a.m after r →
-    Touched 16 (lane_bytes a.form S a.index adds) (lane_clamps a.form S a.index adds) a.file.now a.d a.n a.m after r = λ {after} {r} e t. let a = c.args in
-    touched-as 16 (λ f. lane_bytes f S a.index adds) (λ f. lane_clamps f S a.index adds) a.file.now a.d a.n a.m after r e t in
-    by_form c.in-Scalar.is c.scalar.ensures
+    let a = c.args in
+    by_form a.form _ a.index a.file.now a.d a.n a.m _ _ c.in-Scalar.is c.scalar.ensures
 
 pub returns-in-Vector64 : goal.returns-in-Vector64
 returns-in-Vector64 c =
-    let by_form : {f : Form} {after : List ℕ} {r : Bool} → let a = c.args in
-    a.form ≡ f → Touched 16 (lane_bytes f S a.index adds) (lane_clamps f S a.index adds) a.file.now a.d a.n a.m after r →
-    Touched 16 (lane_bytes a.form S a.index adds) (lane_clamps a.form S a.index adds) a.file.now a.d a.n a.m after r = λ {after} {r} e t. let a = c.args in
-    touched-as 16 (λ f. lane_bytes f S a.index adds) (λ f. lane_clamps f S a.index adds) a.file.now a.d a.n a.m after r e t in
-    by_form c.in-Vector64.is c.vector64.ensures
+    let a = c.args in
+    by_form a.form _ a.index a.file.now a.d a.n a.m _ _ c.in-Vector64.is c.vector64.ensures
 
 pub returns-in-Vector128 : goal.returns-in-Vector128
 returns-in-Vector128 c =
-    let by_form : {f : Form} {after : List ℕ} {r : Bool} → let a = c.args in
-    a.form ≡ f → Touched 16 (lane_bytes f S a.index adds) (lane_clamps f S a.index adds) a.file.now a.d a.n a.m after r →
-    Touched 16 (lane_bytes a.form S a.index adds) (lane_clamps a.form S a.index adds) a.file.now a.d a.n a.m after r = λ {after} {r} e t. let a = c.args in
-    touched-as 16 (λ f. lane_bytes f S a.index adds) (λ f. lane_clamps f S a.index adds) a.file.now a.d a.n a.m after r e t in
-    by_form c.in-Vector128.is c.vector128.ensures
+    let a = c.args in
+    by_form a.form _ a.index a.file.now a.d a.n a.m _ _ c.in-Vector128.is c.vector128.ensures

@@ -1,6 +1,6 @@
 use native.Mathlib.Omega.{arith}
 use borrow.Author.Rules.{rules}
-use Prim.Native.Nat.{◌+◌, ◌-◌, ◌/◌, ◌<◌, ◌≤◌}
+use Prim.Native.Nat.{◌+◌, ◌/◌, ◌<◌, ◌≤◌}
 use lib.ListN.{length}
 use Rattle.regfile.proofs.Sweep.{InFile, sweep-starts, sweep-room, sweep-on, sweep-ends}
 use Rattle.isa.proofs.File.{legal-exact}

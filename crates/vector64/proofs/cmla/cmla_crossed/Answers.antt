@@ -1,6 +1,5 @@
 use native.Mathlib.Omega.{arith}
-use Prim.Native.Nat.{◌+◌, ◌-◌}
-use mathlib.Core.Bool.{false}
+use Prim.Native.Nat.{◌+◌}
 use lib.ListN.{length}
 use Rattle.regfile.proofs.Sweep.{InFile, sweep-starts, sweep-room, sweep-on, sweep-ends}
 use Rattle.vector64.proofs.cmla.cmla_crossed.Goals as goal

@@ -1,6 +1,5 @@
 use native.Mathlib.Omega.{arith}
-use Prim.Native.Nat.{◌+◌, ◌-◌}
-use mathlib.Core.Bool.{true}
+use Prim.Native.Nat.{◌+◌}
 use lib.ListN.{length}
 use Rattle.isa.specs.Register.{bits, bytes}
 use Rattle.regfile.proofs.Sweep.{InFile, sweep-starts, sweep-room, sweep-on, sweep-ends}
