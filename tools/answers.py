@@ -133,17 +133,14 @@ class Function:
         if head in ('args', 'ranges'):
             return [head] + ([self.params.get(canon(rest[0]), rest[0])] + rest[1:] if rest else [])
         if head == 'requires':
-            if self.pre and rest and rest[0].isdigit():
-                rest = [self.pre[int(rest[0])]] + rest[1:]
-            return [head] + rest
+            return [head] + nested(self.pre, rest)
         if canon(head) in ('auto', 'type-inv', 'well-formed'):
             return [head.replace('-', '_')] + rest
         new, rest, callee = self.step(place, head, rest)
         rest = ['type_inv' if x in ('type-inv', 'type_inv') else x for x in rest]
         if callee and len(rest) > 1 and rest[0] == 'ensures' and rest[1].isdigit():
             kinds = self.labels.get(callee, {}).get('ensures', [])
-            if len(kinds) > 1:
-                rest = ['ensures', kinds[int(rest[1])]] + rest[2:]
+            rest = ['ensures'] + nested(kinds if len(kinds) > 1 else [], rest[1:])
         if callee and len(rest) > 1 and rest[0] == 'auto' and rest[1].isdigit():
             muts = self.labels.get(callee, {}).get('muts', [])
             if len(muts) > int(rest[1]):
@@ -272,6 +269,18 @@ class Function:
             count = sum(1 for k in lets if k[0] == name)
             lets[(name, place)] = (name if not count else '%s-%d' % (name, count + 1), kind.strip(), eq.strip())
         return lets[(name, place)][0]
+
+
+def nested(labels, rest):
+    """Several clauses were pairs in pairs, (first, (second, third)); today they have names."""
+    at, rest = 0, list(rest)
+    while labels and rest and rest[0].isdigit():
+        if rest[0] == '0':
+            return [labels[at]] + rest[1:]
+        at, rest = at + 1, rest[1:]
+        if at == len(labels) - 1:
+            return [labels[at]] + rest
+    return rest
 
 
 def read_lemma(name, parts):

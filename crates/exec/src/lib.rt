@@ -1,5 +1,6 @@
 // Executes operations and runs programs on a lent register file.
 #![tactic(auto)]
+
 mod carried;
 mod families;
 mod program;

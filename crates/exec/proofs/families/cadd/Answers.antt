@@ -1,0 +1,21 @@
+-- `exec::families::cadd` meets its contract: each arm is the loop of its size.
+use mathlib.Core.Bool.{false}
+use Rattle.isa.specs.Sources.{add_rule}
+use Rattle.exec.proofs.Operation.{swept_at}
+use Rattle.exec.proofs.families.cadd.Goals as goal
+
+pub returns-in-B : goal.returns-in-B
+returns-in-B c = let a = c.args in
+    swept_at a.l (λ z. add_rule false z a.rot) a.file.now a.d a.d a.m _ c.in-B.is c.cadd.ensures
+
+pub returns-in-H : goal.returns-in-H
+returns-in-H c = let a = c.args in
+    swept_at a.l (λ z. add_rule false z a.rot) a.file.now a.d a.d a.m _ c.in-H.is c.cadd-in-H.ensures
+
+pub returns-in-S : goal.returns-in-S
+returns-in-S c = let a = c.args in
+    swept_at a.l (λ z. add_rule false z a.rot) a.file.now a.d a.d a.m _ c.in-S.is c.cadd-in-S.ensures
+
+pub returns-in-D : goal.returns-in-D
+returns-in-D c = let a = c.args in
+    swept_at a.l (λ z. add_rule false z a.rot) a.file.now a.d a.d a.m _ c.in-D.is c.cadd-in-D.ensures
