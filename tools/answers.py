@@ -204,11 +204,29 @@ class Function:
         path = re.compile(r"(%s)((?:\.[\w'-]+)+)" % NAME)
         word = re.compile(NAME)
         use = re.compile(r"(%s) (%s)((?:\.before)*)(?![\w'.-])" % (NAME, NAME))
+        depth, hidden = 0, []
+        lam = re.compile(r"λ ([^.()]*)\.(?=\s)")
         while i < len(text):
             if i and re.match(r"[\w.'-]", text[i - 1]) and re.match(r"[\w']", text[i]):
                 out += text[i]
                 i += 1
                 continue
+            # A λ's own variables hide records of the same name up to the end of its parentheses.
+            m = lam.match(text, i)
+            if m:
+                for name in m.group(1).split():
+                    if name in known:
+                        hidden.append((depth, name, known.pop(name), root.pop(name)))
+                out += m.group(0)
+                i = m.end()
+                continue
+            if text[i] in '([{':
+                depth += 1
+            elif text[i] in ')]}':
+                depth -= 1
+                while hidden and hidden[-1][0] > depth:
+                    _, name, place, r = hidden.pop()
+                    known[name], root[name] = place, r
             m = let.match(text, i)
             if m and m.group(2) in known:
                 known[m.group(1)] = self.up(known[m.group(2)], m.group(3).count('.before'))

@@ -1,6 +1,6 @@
 -- `exec::families::sqrdmlah` meets its contract: each arm is the function of its size.
 use mathlib.Core.Path.{◌≡◌, subst}
-use Prim.Native.Nat.{◌<◌}
+use Prim.Native.Nat.{ℕ, ◌<◌}
 use Rattle.isa.specs.Encode.{by_size}
 use Rattle.isa.specs.Meaning.{lane_bytes, lane_clamps, adds}
 use Rattle.isa.specs.declared.types.Size.{Size}
@@ -8,15 +8,17 @@ use Rattle.regfile.proofs.Sweep.{touched-as}
 use Rattle.exec.proofs.Operation.{not-b, not-d}
 use Rattle.exec.proofs.families.sqrdmlah.Goals as goal
 
+-- the index is below the limit of the size that was matched
+small : {size z : Size} (index : ℕ) → size ≡ z → index < by_size 8 4 size → index < by_size 8 4 z
+small index e h = subst (λ z. index < by_size 8 4 z) e h
+
 pub elements-requires : goal.elements-requires
 elements-requires c =
-    let small : {z : Size} → c.args.size ≡ z → c.args.index < by_size 8 4 z = λ e. subst (λ z. c.args.index < by_size 8 4 z) e c.requires.size_value.1 in
-    record { within = c.requires.within; index_bound = small c.in-H.is }
+    record { within = c.requires.within; index_bound = small _ c.in-H.is c.requires.size_value.1 }
 
 pub elements-requires-in-S : goal.elements-requires-in-S
 elements-requires-in-S c =
-    let small : {z : Size} → c.args.size ≡ z → c.args.index < by_size 8 4 z = λ e. subst (λ z. c.args.index < by_size 8 4 z) e c.requires.size_value.1 in
-    record { within = c.requires.within; index_bound = small c.in-S.is }
+    record { within = c.requires.within; index_bound = small _ c.in-S.is c.requires.size_value.1 }
 
 pub returns-in-B : goal.returns-in-B
 returns-in-B c = absurd (not-b c.requires.size_value.0 c.in-B.is)

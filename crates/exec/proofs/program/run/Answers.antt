@@ -9,7 +9,7 @@ use Rattle.exec.proofs.program.run.Goals as goal
 
 pub returns-then-words-gt4096 : goal.returns-then-words-gt4096
 returns-then-words-gt4096 c = let a = c.args in
-    (λ c. record { answer = c.refused.ensures c; file = a.file.now })
+    (λ t. record { answer = c.refused.ensures t; file = a.file.now })
     ∙ outcome-long a.l a.file.now a.qc a.words.now (sym c.check_size-c.ensures ∙ c.in-Passed.is) (omega (arith, c.if-words-gt4096.true))
 
 pub run_words-requires : goal.run_words-requires

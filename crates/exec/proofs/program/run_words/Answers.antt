@@ -18,7 +18,7 @@ step_word-stepped-requires c = record { held = record { ok = c.requires.held.ok;
 
 pub shape_of-file-in-Stopped : goal.shape_of-file-in-Stopped
 shape_of-file-in-Stopped c = let a = c.args in
-    c.step_word-stepped.auto.1.0 ∙ c.loop-i.invariant.sized ∙ sym c.requires.held.sized
+    c.step_word-stepped.auto.file ∙ c.loop-i.invariant.sized ∙ sym c.requires.held.sized
 
 pub returns-in-Stopped : goal.returns-in-Stopped
 returns-in-Stopped c = let a = c.args in

@@ -26,4 +26,4 @@ returns c =
     RegistersAt a.l a.file.now (Op.SqrdcmlahIndexed a.a) (get_or a.starts.now c.wide.result 0) (get_or a.starts.now c.wide-2.result 0) (get_or a.starts.now c.wide-3.result 0) = let a = c.args in
     found a.l a.file.now c.requires.held a.starts.now c.requires.starts (Op.SqrdcmlahIndexed a.a) c.requires.indexed_valid c.wide.result c.wide-2.result c.wide-3.result c.wide.ensures c.wide-2.ensures c.wide-3.ensures in
     let a = c.args in
-    swept-executed a.l (Op.SqrdcmlahIndexed a.a) c.requires.indexed_valid (λ r. refl) a.file.now c.requires.held _ _ _ (there).placed refl (indexed_rule true a.a.size c.wide-4.result a.a.rot) (λ c n m i. ap (λ c. indexed_rule true a.a.size c a.a.rot c n m i) (sym c.wide-4.ensures)) _ c.indexed.ensures
+    swept-executed a.l (Op.SqrdcmlahIndexed a.a) c.requires.indexed_valid (λ r. refl) a.file.now c.requires.held _ _ _ (there).placed refl (indexed_rule true a.a.size c.wide-4.result a.a.rot) (λ x n m i. ap (λ k. indexed_rule true a.a.size k a.a.rot x n m i) (sym c.wide-4.ensures)) _ c.indexed.ensures

@@ -17,19 +17,21 @@ sqrdmlsh-clamped-requires c =
     found a.l a.file.now c.requires.held a.starts.now c.requires.starts (Op.Sqrdmlsh a.a) c.requires.element_valid c.wide.result c.wide-2.result c.wide-3.result c.wide.ensures c.wide-2.ensures c.wide-3.ensures in
     record { within = (there).within; size_value = (c.requires.element_valid.size, subst (λ i. i < by_size 8 4 c.args.a.size) (sym c.wide-4.ensures) c.requires.element_valid.index) }
 
-abbrev placing : goal.After-sqrdmlsh-clamped → goal.After-m-1
-placing k = k.before.before.before
-
-abbrev start : goal.After-sqrdmlsh-clamped → goal.Start
-start k = (placing k).before.before.before.before.before.before.before
-
 pub clear_above-requires : goal.clear_above-requires
-clear_above-requires c = let held = (start c).requires.0 in
-    record { held = record { ok = held.ok; sized = c.sqrdmlsh-clamped.ensures.sized ∙ held.sized }; l_bound = (there (placing c)).lying.dest }
+unfolding dest_of first_of second_of
+clear_above-requires c =
+    let there : let a = c.args in
+    RegistersAt a.l a.file.now (Op.Sqrdmlsh a.a) (get_or a.starts.now c.wide.result 0) (get_or a.starts.now c.wide-2.result 0) (get_or a.starts.now c.wide-3.result 0) = let a = c.args in
+    found a.l a.file.now c.requires.held a.starts.now c.requires.starts (Op.Sqrdmlsh a.a) c.requires.element_valid c.wide.result c.wide-2.result c.wide-3.result c.wide.ensures c.wide-2.ensures c.wide-3.ensures in
+    let held = c.requires.held in
+    record { held = record { ok = held.ok; sized = c.sqrdmlsh-clamped.ensures.sized ∙ held.sized }; l_bound = there.lying.dest }
 
 pub returns : goal.returns
-unfolding made clamps_in writes dest_of
-returns c = let s = start c in
-    let a = s.args in
-    touched-executed a.l (Op.Sqrdmlsh a.a) (λ r. refl) a.file.now s.pre.0 _ _ _ (there (placing c)).placed _ _
-    (touched-whole a.a.form a.a.size subtracts a.l a.file.now _ _ _ _ _ _ s.pre.0 c.wide-4.ensures c.sqrdmlsh-clamped.ensures c.clear_above.ensures)
+unfolding made clamps_in writes dest_of first_of second_of
+returns c =
+    let there : let a = c.args in
+    RegistersAt a.l a.file.now (Op.Sqrdmlsh a.a) (get_or a.starts.now c.wide.result 0) (get_or a.starts.now c.wide-2.result 0) (get_or a.starts.now c.wide-3.result 0) = let a = c.args in
+    found a.l a.file.now c.requires.held a.starts.now c.requires.starts (Op.Sqrdmlsh a.a) c.requires.element_valid c.wide.result c.wide-2.result c.wide-3.result c.wide.ensures c.wide-2.ensures c.wide-3.ensures in
+    let a = c.args in
+    touched-executed a.l (Op.Sqrdmlsh a.a) (λ r. refl) a.file.now c.requires.held _ _ _ there.placed _ _
+    (touched-whole a.a.form a.a.size subtracts a.l a.file.now _ _ _ _ _ _ c.requires.held c.wide-4.ensures c.sqrdmlsh-clamped.ensures c.clear_above.ensures)

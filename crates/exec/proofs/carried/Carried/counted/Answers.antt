@@ -1,7 +1,7 @@
 -- `exec::carried::Carried::counted` meets its contract.
 use mathlib.Core.Path.{refl}
-use mathlib.Core.Logic.{⊎_elim}
 use Rattle.exec.proofs.carried.Carried.counted.Goals as goal
+use Rattle.exec.proofs.carried.Carried.counted.Goals.{then-self, else-self}
 
 pub returns : goal.returns
-returns c = (⊎_elim (λ h. rw h.0.taken h.1) (λ h. rw h.0.left h.1) c.if-self.branch, refl)
+returns c = (elim c.if-self.branch [ then-self w ↦ rw w.if-self.true w.result-is | else-self w ↦ rw w.if-self.false w.result-is ], refl)
