@@ -16,7 +16,7 @@ NAME = r"[^\W\d][\w'-]*"
 
 
 def canon(name):
-    name = name.replace('type_size', 'size-of').replace('_', '-').lower()
+    name = name.replace('type_size', 'size-of').replace('_', '-').lower().replace('isplace', 'place')
     return re.sub(r'([a-z])-(\d+)$', r'\1\2', name)
 
 
@@ -143,8 +143,12 @@ class Function:
             rest = ['ensures'] + nested(kinds if len(kinds) > 1 else [], rest[1:])
         if callee and len(rest) > 1 and rest[0] == 'auto' and rest[1].isdigit():
             muts = self.labels.get(callee, {}).get('muts', [])
-            if len(muts) > int(rest[1]):
-                rest = ['auto', muts[int(rest[1])]] + rest[2:]
+            if len(muts) == 1:
+                while len(rest) > 1 and rest[1].isdigit():
+                    del rest[1]
+                rest.insert(1, muts[0])
+            else:
+                rest = ['auto'] + nested(muts, rest[1:])
         if callee and len(rest) > 1 and rest[0] == 'new' and rest[1].isdigit():
             muts = self.labels.get(callee, {}).get('muts', [])
             if muts:
@@ -377,6 +381,8 @@ def convert(folder, names, crate, all_labels):
 
             def var(mm):
                 w = mm.group(0)
+                if re.match(r'\s=\s', mm.string[mm.end():]):
+                    return w
                 if w in start:
                     return ('l.fn.%s' if w[:-1] in arg_names else 'l.initial.%s') % w[:-1]
                 if w in plain:

@@ -15,4 +15,4 @@ slice_bounds-replayed_on-end c = sym (length-take-le _ _ (omega (arith, ((legal-
 pub replayed_on-requires : goal.replayed_on-requires
 replayed_on-requires c = let short = ((legal-exact c.args.l).0 c.requires.ok).most in
     let size : c.args.l * 4 % 18446744073709551616 ≡ 4 * c.args.l = omega (arith, short) in
-    record { image_len = sym (slice-aggregate-replayed-on c) ∙ size; parts = c.requires }
+    record { image_len = (length-take-le _ _ (omega (arith, short))) ∙ size; parts = c.requires }

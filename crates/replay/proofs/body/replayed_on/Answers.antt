@@ -14,11 +14,11 @@ returns-in_default c = let a = c.args in
     ∙ stopped-verdict a.l a.before a.file.now a.words.now a.after a.left.now c.run_bytes-ran.result _ _ c.load.ensures c.run_bytes-ran.ensures (opened c.in_default.in_default-own.keys2)
 
 pub compare-requires : goal.compare-requires
-compare-requires c = let size = c.run_bytes-ran.auto.1.0 ∙ ap length c.load.ensures ∙ c.requires.parts.sized in
+compare-requires c = let size = c.run_bytes-ran.auto.file ∙ ap length c.load.ensures ∙ c.requires.parts.sized in
     c.requires.parts.beside ∙ sym size
 
 pub returns : goal.returns
 returns c = let a = c.args in
     c.compare.ensures
-    ∙ done-verdict a.l a.before a.file.now a.words.now a.after a.left.now c.run_bytes-ran.result _ _ c.load.ensures c.run_bytes-ran.ensures c.enum_told-1.given.1
+    ∙ done-verdict a.l a.before a.file.now a.words.now a.after a.left.now c.run_bytes-ran.result _ _ c.load.ensures c.run_bytes-ran.ensures c.in-Done.is
     c.flags.result c.flags.ensures

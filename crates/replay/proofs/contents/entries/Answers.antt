@@ -8,7 +8,7 @@ pub entry_place-due-requires : goal.entry_place-due-requires
 entry_place-due-requires c = c.requires.few
 
 pub loop-k-init : goal.loop-k-init
-loop-k-init c = entries-starts c.args.trace.now c.args.cases c.requires _ c.entry_IsPlace.ensures
+loop-k-init c = entries-starts c.args.trace.now c.args.cases c.requires _ c.entry_place-due.ensures
 
 pub entry-extent-requires : goal.entry-extent-requires
 entry-extent-requires c = (omega (arith, c.loop-k-test.true, c.requires.few), entries-short c.args.trace.now c.args.cases c.requires c.loop-k.due c.loop-k.k c.loop-k.invariant)

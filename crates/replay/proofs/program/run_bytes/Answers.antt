@@ -29,7 +29,7 @@ overflow_add-result c = let a = c.args in
     omega (arith, few, c.taken-n.ensures.2, c.loop-done.invariant.1, c.requires.bytes_len_bound)
 
 pub shape_of-file-in_default : goal.shape_of-file-in_default
-shape_of-file-in_default c = c.run-ran.auto.1.0 ∙ c.loop-done.invariant.0.sized ∙ sym c.requires.held.sized
+shape_of-file-in_default c = c.run-ran.auto.file ∙ c.loop-done.invariant.0.sized ∙ sym c.requires.held.sized
 
 pub returns-in_default : goal.returns-in_default
 returns-in_default c = let a = c.args in
