@@ -1,5 +1,6 @@
 // A trace that comes in pieces: the state that is handed on, and the calls with some bytes and at the end.
 #![tactic(auto)]
+
 mod bodies;
 mod body;
 pub mod bytes;

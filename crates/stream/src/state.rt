@@ -14,7 +14,7 @@ pub const IMAGE: usize = 8192;
 pub const HELD: usize = 20480;
 
 // What comes next: the table of contents, bodies, or nothing more.
-#[derive(Drop)]
+#[derive(Clone, Copy)]
 pub enum Phase {
     Contents,
     Bodies,
@@ -22,14 +22,14 @@ pub enum Phase {
 }
 
 // How a case stands: what is said of it, which is that it agrees until something else is known, and the flag QC of its run.
-#[derive(Drop)]
+#[derive(Clone, Copy)]
 pub struct Standing {
     pub said: Verdict,
     pub qc: bool,
 }
 
 // How far the contents or a body have come: the bytes so far, those of a number that is not whole yet, with zeros behind them, and the case.
-#[derive(Drop)]
+#[derive(Clone, Copy)]
 pub struct Course {
     pub at: usize,
     pub held: [u8; 4],

@@ -1,0 +1,8 @@
+-- The array is zeros.
+use mathlib.Core.Path.{ap, ◌∙◌}
+use Rattle.stream.specs.Kept.{course_at}
+use Rattle.stream.proofs.Padded.{padded-none}
+use Rattle.stream.proofs.state.fresh.Goals as goal
+
+pub returns : goal.returns
+returns c = c.course_at.ensures ∙ ap (course_at 0) (padded-none 4)
