@@ -249,6 +249,18 @@ class Function:
                 out += self.lemma(m.group(1), place, lets)
                 i = m.end()
                 continue
+            if m and m.group(1) in self.answers and m.group(2) in known:
+                goal = self.answers[m.group(1)]
+                place = dict((b, new) for (a, b), (old, new) in zip(self.needs, self.names['asked_at']))
+                if place[goal] == place[self.current]:
+                    out += goal + ' c'
+                else:
+                    self.places_used.add(place[goal])
+                    out += '%s (goal.at.%s c).%s' % (goal, self.current, place[goal])
+                i = m.end()
+                if text[i:i + 3] == ' tt':
+                    i += 3
+                continue
             m = path.match(text, i)
             if m:
                 parts = m.group(2)[1:].split('.')
@@ -355,7 +367,12 @@ def convert(folder, names, crate, all_labels):
             order.append(name)
         joined[name].append(item)
     out, inv = [], []
-    f.lemmas, f.opened = {}, set()
+    f.lemmas, f.opened, f.answers, f.places_used = {}, set(), {}, set()
+    for name in order:
+        m = re.match(r"(?:pub )?%s\s*:\s*tie\.Need-([\w'-]+)" % re.escape(name), joined[name][0])
+        if m and f.goal(m.group(1)):
+            f.answers[name] = f.goal(m.group(1))
+    referenced = {n for n in f.answers if any(re.search(r"(?<![\w.'-])%s(?= [a-zA-Z])(?! :)(?! c\b[^.]*=)" % re.escape(n), '\n'.join(joined[o][1:])) for o in order if o != n)}
     for name in order:
         if 'tie.Need' not in joined[name][0] and re.search(r': tie\.', joined[name][0]) and not joined[name][0].startswith('abbrev'):
             found = read_lemma(name, joined[name])
@@ -403,7 +420,7 @@ def convert(folder, names, crate, all_labels):
             k = re.match(r"%s((?:\s+[^\s=]+)*)\s*=\s*(.*)" % re.escape(name), eq, re.S)
             args, body = k.group(1).split(), k.group(2)
             unf = [p for p in parts[1:-1]]
-            if body.strip() == 'search rules' and not unf:
+            if body.strip() == 'search rules' and not unf and name not in referenced:
                 continue
             if goal == '':
                 continue
@@ -412,9 +429,10 @@ def convert(folder, names, crate, all_labels):
                 continue
             args = [a for a in args if a not in ('κs', 'κ')]
             f.opened = set()
-            body = f.body(body, {args[-1]: f.index.get(f.at[goal])})
+            f.current = goal
+            body = f.body(body, {args[0]: f.index.get(f.at[goal])})
             body = f.as_record(goal, body)
-            args[-1] = 'c'
+            args[0] = 'c'
             missing = sorted(f.opened - {w for u in unf for w in u.split()[1:]})
             if missing:
                 unf = ['unfolding ' + ' '.join([w for u in unf for w in u.split()[1:]] + missing)]
@@ -443,6 +461,7 @@ def convert(folder, names, crate, all_labels):
             if len(args) == len(f.needs):
                 for a, (_, goal) in zip(args, f.needs):
                     k = re.match(r'\(λ c((?: κs)?)\.\s*(.*)\)$', a, re.S)
+                    f.current = goal
                     if k and k.group(2).strip() != 'search rules':
                         out.append('pub %s : goal.%s\n%s c = %s' % (goal, goal, goal, f.body(k.group(2), {'c': f.index.get(f.at[goal])})))
             else:
@@ -484,7 +503,7 @@ def convert(folder, names, crate, all_labels):
             g.write('\n'.join(([comment] if comment else []) + wanted(uses, t) + ['use %s.Given as goal' % module, '', '\n\n'.join(inv)]) + '\n')
     if out:
         with open(os.path.join(folder, 'Answers.antt'), 'w', encoding='utf-8') as g:
-            g.write('\n'.join(([comment] if comment and not inv else []) + wanted(uses, body) + ['use %s.Goals as goal' % module, '', '\n\n'.join(out)]) + '\n')
+            g.write('\n'.join(([comment] if comment and not inv else []) + wanted(uses, body) + ['use %s.Goals as goal' % module] + (['use %s.Goals.{%s}' % (module, ', '.join(sorted(f.places_used)))] if f.places_used else []) + ['', '\n\n'.join(out)]) + '\n')
     if not inv and not out:
         os.rmdir(folder)
     return 'turned'

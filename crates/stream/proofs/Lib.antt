@@ -13,6 +13,6 @@ pub mod Rows
 pub mod Judged
 -- the calls
 pub mod Phases
-pub mod Fed
+pub mod Feeding
 pub mod Called
 pub mod Cut

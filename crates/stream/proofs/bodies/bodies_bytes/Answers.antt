@@ -1,9 +1,9 @@
 -- Behind the last body, in the body of the case at hand, or in a state that no stream leaves.
-use mathlib.Core.Logic.{⊎_elim}
 use mathlib.Core.Path.{sym, ◌∙◌}
 use Rattle.stream.proofs.Judged.{allowed-true}
 use Rattle.stream.proofs.Rows.{image-part, one-taken, row-place, rows-past, rows_few, rows-allowed, rows-case}
 use Rattle.stream.proofs.bodies.bodies_bytes.Goals as goal
+use Rattle.stream.proofs.bodies.bodies_bytes.Goals.{then-case-lt1024+else-is_allowed, else-case-lt1024}
 
 pub returns-then-m-case : goal.returns-then-m-case
 returns-then-m-case c = let one = one-taken c.args.bytes.now _ _ c.requires.1 c.refuse.ensures in
@@ -29,8 +29,9 @@ pub returns : goal.returns
 returns c = let one = one-taken c.args.bytes.now _ _ c.requires.1 c.refuse-2.ensures in (
       one.0,
       one.1,
-      ⊎_elim
-          (λ w. rows-allowed c.args.held.now c.args.m c.args.bytes.now _ c.if-m-case.false _ _ _ (row-place _ w.0.taken)
-          (w.3.ensures ∙ w.2.ensures) (w.6.ensures ∙ w.5.ensures) (sym w.8.left ∙ w.7.ensures))
-          (λ w. rows_few c.args.held.now c.args.m c.args.bytes.now _ c.if-m-case.false w.left) c.if-case-lt1024.branch,
+      elim c.if-case-lt1024.branch [
+        then-case-lt1024+else-is_allowed w ↦ rows-allowed c.args.held.now c.args.m c.args.bytes.now _ c.if-m-case.false _ _ _ (row-place _ w.if-case-lt1024.true)
+          (w.wide-l.ensures ∙ w.word_at.ensures) (w.wide-w.ensures ∙ w.word_at-then-case-lt1024.ensures) (sym w.if-is_allowed.false ∙ w.is_allowed.ensures)
+      | else-case-lt1024 w ↦ rows_few c.args.held.now c.args.m c.args.bytes.now _ c.if-m-case.false w.if-case-lt1024.false
+      ],
     )

@@ -4,6 +4,7 @@ use mathlib.Core.Path.{sym, ◌∙◌}
 use Rattle.isa.proofs.File.{legal-exact}
 use Rattle.stream.proofs.Judged.{file-size, file-within, case-on, case-whole}
 use Rattle.stream.proofs.bodies.case_bytes.Goals as goal
+use Rattle.stream.proofs.bodies.case_bytes.Goals.{After-standing-1}
 
 pub body_size-requires : goal.body_size-requires
 body_size-requires c = (((legal-exact _).0 c.requires.allowed.0.ok).most, c.requires.allowed.0.few)
@@ -12,7 +13,7 @@ pub slice_bounds-clear-end : goal.slice_bounds-clear-end
 slice_bounds-clear-end c = file-within c.args.l c.body_bytes-moved.new.image c.requires.allowed.0.ok (c.body_bytes-moved.auto.image ∙ c.requires.image_len.0)
 
 pub slice_bounds-clear-end-then-course-body_size : goal.slice_bounds-clear-end-then-course-body_size
-slice_bounds-clear-end-then-course-body_size c = sym (length-take-le _ _ (slice-relend-prefix-clear c))
+slice_bounds-clear-end-then-course-body_size c = sym (length-take-le _ _ (slice_bounds-clear-end (goal.at.slice_bounds-clear-end-then-course-body_size c).After-standing-1))
 
 pub returns-then-course-body_size : goal.returns-then-course-body_size
 returns-then-course-body_size c = let moved = c.body_bytes-moved.ensures in (

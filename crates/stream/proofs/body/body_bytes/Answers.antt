@@ -21,7 +21,7 @@ slice_bounds-file_bytes-end c = sym (length-take-le _ _ c.least-n.ensures.1)
 
 pub file_bytes-course-requires : goal.file_bytes-course-requires
 file_bytes-course-requires c = let here = in-file-before c.args.c.at _ c.if-at-words.true in
-    let size = slice-aggregate-file-bytes c in
+    let size = slice_bounds-file_bytes-end c in
     record { image_len = c.requires.image_len.0; l_bound = (((legal-exact c.args.l).0 c.requires.allowed.0.ok).most, here.0, omega (arith, here.1, c.least-n.ensures.0, c.words_place-words.ensures)) }
 
 pub returns-then-at-words : goal.returns-then-at-words
@@ -41,7 +41,7 @@ slice_bounds-left_bytes-end c = sym (length-take-le _ _ c.least-n-then-flag-at.e
 
 pub left_bytes-course-requires : goal.left_bytes-course-requires
 left_bytes-course-requires c = let short = ((legal-exact c.args.l).0 c.requires.allowed.0.ok).most in
-    let size = slice-aggregate-left-bytes c in
+    let size = slice_bounds-left_bytes-end c in
     record { image_len = (c.requires.image_len.0, short); at_bound = (omega (arith, c.requires.allowed.1, c.requires.allowed.0.few, short), omega (arith, c.least-n-then-flag-at.ensures.0, c.flag_place-flag.ensures, c.if-flag-at.true, c.requires.allowed.1)) }
 
 pub returns-then-flag-at : goal.returns-then-flag-at
@@ -65,7 +65,7 @@ slice_bounds-word_bytes-end c = sym (length-take-le _ _ (omega (arith, c.least-n
 
 pub word_bytes-course-requires : goal.word_bytes-course-requires
 word_bytes-course-requires c = let here = c.at_words.ensures c.if-at_words.true in
-    let size = slice-aggregate-word-bytes c in
+    let size = slice_bounds-word_bytes-end c in
     let whole = c.least-n-then-at_words.ensures.3 (omega (arith, here.whole, here.to, c.flag_place-flag.ensures)) (omega arith) in
     record { image_len = c.requires.image_len.0; allowed = (c.requires.allowed.0, here.from, omega (arith, c.least-n-then-at_words.ensures.0, here.to, c.flag_place-flag.ensures)); at_value = (here.whole, omega arith) }
 

@@ -10,7 +10,5 @@ size : (at n : ℕ) → 4 ≤ at → at + n - 4 - (at - 4) ≡ n
 size at n l = omega arith
 
 pub returns : goal.returns
-returns c c = let ld = c.before.before in
-    let st = ld.before.before.before.before.before.before in
-    let a = st.args in
-    rw ld.load.ensures (file-bytes a.l c a.image.now a.c a.bytes.now st.requires.1.1 st.requires.1.2 st.requires.1.0 _ _ refl (size a.c.at (length a.bytes.now) st.requires.1.1))
+returns c W = let a = c.args in
+    rw c.load.ensures (file-bytes a.l W a.image.now a.c a.bytes.now c.requires.l_bound.1 c.requires.l_bound.2 c.requires.l_bound.0 _ _ refl (size a.c.at (length a.bytes.now) c.requires.l_bound.1))

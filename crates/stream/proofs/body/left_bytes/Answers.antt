@@ -8,8 +8,7 @@ use Rattle.stream.proofs.Moved.{left-bytes}
 use Rattle.stream.proofs.body.left_bytes.Goals as goal
 
 pub returns : goal.returns
-returns c W allowed c = let st = c.before.before.before.before.before.before in
-    let a = st.args in
+returns c W allowed here = let a = c.args in
     let size : a.from + length a.bytes.now - a.from ≡ length a.bytes.now = omega arith in
-    left-bytes a.l W a.image.now a.c a.bytes.now allowed a.from c st.requires.1.1 _
-    (c.compare.ensures ∙ ap (λ (n : ℕ). standing_beside a.c.standing a.from (take n (drop a.from a.image.now)) a.bytes.now) size)
+    left-bytes a.l W a.image.now a.c a.bytes.now allowed a.from here c.requires.at_bound.1 _
+    (c.compare-standing.ensures ∙ ap (λ (n : ℕ). standing_beside a.c.standing a.from (take n (drop a.from a.image.now)) a.bytes.now) size)

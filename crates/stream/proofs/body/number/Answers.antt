@@ -6,6 +6,7 @@ use lib.Seq.{length-take-le}
 use Rattle.isa.proofs.File.{legal-exact}
 use Rattle.stream.proofs.Moved.{number-before, number-after, number_word, ends-past}
 use Rattle.stream.proofs.body.number.Goals as goal
+use Rattle.stream.proofs.body.number.Goals.{After-words_place}
 
 pub returns-then-at-eq4 : goal.returns-then-at-eq4
 returns-then-at-eq4 c = let a = c.args in
@@ -27,11 +28,11 @@ pub slice_bounds-execute-end : goal.slice_bounds-execute-end
 slice_bounds-execute-end c = omega (arith, c.requires.image_len.0, ((legal-exact c.args.l).0 c.requires.allowed.0.ok).most)
 
 pub slice_bounds-execute-end-then-at-flag_place : goal.slice_bounds-execute-end-then-at-flag_place
-slice_bounds-execute-end-then-at-flag_place c = sym (length-take-le _ _ (slice-relend-prefix-execute c))
+slice_bounds-execute-end-then-at-flag_place c = sym (length-take-le _ _ (slice_bounds-execute-end (goal.at.slice_bounds-execute-end-then-at-flag_place c).After-words_place))
 
 pub execute-requires : goal.execute-requires
 execute-requires c = let size : c.args.l * 4 % 18446744073709551616 ≡ 4 * c.args.l = omega (arith, ((legal-exact c.args.l).0 c.requires.allowed.0.ok).most) in
-    (record { ok = c.requires.allowed.0.ok; sized = sym (slice-aggregate-execute c) ∙ size }, omega (arith, c.requires.image_len.1), omega (arith, c.requires.allowed.1.most, c.requires.allowed.0.few, c.words_place.ensures))
+    (record { ok = c.requires.allowed.0.ok; sized = sym (slice_bounds-execute-end-then-at-flag_place c) ∙ size }, omega (arith, c.requires.image_len.1), omega (arith, c.requires.allowed.1.most, c.requires.allowed.0.few, c.words_place.ensures))
 
 pub returns-then-at-flag_place : goal.returns-then-at-flag_place
 returns-then-at-flag_place c = let a = c.args in

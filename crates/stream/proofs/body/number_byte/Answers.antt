@@ -20,4 +20,4 @@ returns c = let a = c.args in
     byte-on a.l a.w a.image.now a.c a.b c.requires.allowed.1 _ c.with_byte-held.ensures.0 c.if-at-eq3.false
 
 pub overflow_add-result : goal.overflow_add-result
-overflow_add-result c = add-number c
+overflow_add-result c = omega (arith, c.requires.allowed.1.most, c.requires.allowed.0.few, ((legal-exact c.args.l).0 c.requires.allowed.0.ok).most)

@@ -6,6 +6,7 @@ use lib.Seq.{length-take-le}
 use Rattle.isa.proofs.File.{legal-exact}
 use Rattle.stream.proofs.Moved.{word_bytes}
 use Rattle.stream.proofs.body.word_bytes.Goals as goal
+use Rattle.stream.proofs.body.word_bytes.Goals.{After-words_place}
 
 pub words_place-requires : goal.words_place-requires
 words_place-requires c = ((legal-exact c.args.l).0 c.requires.allowed.0.ok).most
@@ -17,11 +18,11 @@ pub slice_bounds-execute-end : goal.slice_bounds-execute-end
 slice_bounds-execute-end c = omega (arith, c.requires.image_len, ((legal-exact c.args.l).0 c.requires.allowed.0.ok).most)
 
 pub slice_bounds-execute-end-2 : goal.slice_bounds-execute-end-2
-slice_bounds-execute-end-2 c = sym (length-take-le _ _ (slice-relend-prefix-execute c))
+slice_bounds-execute-end-2 c = sym (length-take-le _ _ (slice_bounds-execute-end (goal.at.slice_bounds-execute-end-2 c).After-words_place))
 
 pub execute-standing-requires : goal.execute-standing-requires
 execute-standing-requires c = let size : c.args.l * 4 % 18446744073709551616 ≡ 4 * c.args.l = omega (arith, ((legal-exact c.args.l).0 c.requires.allowed.0.ok).most) in (
-      record { ok = c.requires.allowed.0.ok; sized = sym (slice-aggregate-execute c) ∙ size },
+      record { ok = c.requires.allowed.0.ok; sized = sym (slice_bounds-execute-end-2 c) ∙ size },
       omega (arith, c.requires.allowed.0.few, c.requires.allowed.2, c.requires.allowed.1),
       omega (arith, c.requires.allowed.0.few, c.requires.allowed.2, c.requires.allowed.1, c.words_place.ensures),
     )

@@ -1,5 +1,5 @@
 -- The contents, the bodies, or a stream that is over.
-use Rattle.stream.proofs.Fed.{step-contents, step-bodies, step-ended}
+use Rattle.stream.proofs.Feeding.{step-contents, step-bodies, step-ended}
 use Rattle.stream.proofs.feed.step.Goals as goal
 
 pub returns-in-Contents : goal.returns-in-Contents

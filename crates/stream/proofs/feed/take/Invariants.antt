@@ -1,7 +1,7 @@
 -- None of the bytes before `at` brings anything, and the state is that behind them.
 use Prim.Native.Nat.{◌-◌}
 use lib.ListN.{length}
-use Rattle.stream.proofs.Fed.{Taking}
+use Rattle.stream.proofs.Feeding.{Taking}
 use Rattle.stream.proofs.feed.take.Given as goal
 
 abbrev pub invariant-loop-at : goal.invariant-loop-at
