@@ -736,9 +736,9 @@ def makes_a_tar(tree):
     commit = command("git", "-C", ROOT, "rev-parse", "HEAD").decode().strip()
     for part in (f"Kobbeskuim {version},", f"commit: {commit}", f"kit: {command('rt', 'version').decode().strip()}"):
         check(part in note, "the note has no", part, note)
-    crates = [line.split(":")[0] for line in (ROOT / "crates.txt").read_text().splitlines() if re.match(r"[a-z]", line)]
+    crates = re.findall(r"^([a-z]\w*).*:", (ROOT / "crates.txt").read_text(), re.M)
     for crate in crates:
-        assumed = r", assuming libc::read, libc::write" if crate in PROGRAMS else ""
+        assumed = r", assuming libc::read, libc::write(, \w+(::\w+)+)*" if crate in PROGRAMS else ""
         counted = re.search(rf"^{crate} \d+{assumed}$", note, re.M)
         check(bool(counted) != crate.endswith("cases"), "the note counts", crate, "wrongly")
     installed(tree, prefix, version)
