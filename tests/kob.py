@@ -33,7 +33,7 @@ import verdicts
 
 BUILT = ROOT / "target"
 PATIENCE = 60  # seconds in which a command must end by itself
-BUILDING = 900  # seconds in which the kit must have built what the gate has not
+BUILDING = 1800  # seconds in which the kit must have built what the gate has not
 NOBODY = 65534
 SIGNALS = signal.SIGINT, signal.SIGTERM, signal.SIGHUP, signal.SIGQUIT
 
