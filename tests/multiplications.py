@@ -3,20 +3,25 @@
 
     python3 tests/multiplications.py [--lowered]
 
-It reads the sources of all crates, the programs' too. A `*` behind an operand is a multiplication, and so is `*=`; one
-in a comment, a contract, a `ghost use` or a literal is none, and one with no operand before it is a dereference. Behind
-a closing brace it counts as a multiplication: whether the block is an operand is not looked into. It then tries itself
-on trees with a second multiplication, and on trees with what only looks like one.
+It reads the sources of all crates, the programs' too. A `*` behind an operand is a multiplication, and so are `*=` and a
+method of the library that multiplies; one in a comment, a contract, a `ghost use` or a literal is none, and one with no
+operand before it is a dereference. Behind a closing brace it counts as a multiplication: whether the block is an operand
+is not looked into. It then tries itself on trees with a second multiplication, and on trees with what only looks like one.
 
---lowered asks rt for the MIR of the crates that the archive is made of, which have to be proved, and holds that to the
-same: it is what is proved and compiled. An index of the language's own is a multiplication there, by the size of an
-element, a power of two; every other product counts.
+--lowered reads the MIR of what the archive is made of, once ./kob staticlib has built it, and holds that to the same: it
+is what is proved and compiled. That of a library stands in its rlib, of this checkout or of the kit; a crate for C has
+none, so it is built as a library, in a folder of its own. What counts is what the calls for C reach. An index of the
+language's own is a multiplication there, by the size of an element, a power of two (in a generic function of the kit by a
+size that it does not name); every other product counts.
 """
 
 import functools
+import json
 import re
 import subprocess
 import sys
+import tempfile
+from concurrent.futures import ThreadPoolExecutor
 from pathlib import Path
 
 sys.dont_write_bytecode = True  # the repository stays as it was
@@ -34,8 +39,10 @@ TOKEN = re.compile(
     |(?P<mark>'\w+|\*=|.)""",
     re.DOTALL | re.VERBOSE,
 )
-CLAUSE = re.compile(r"(?:requires|ensures|ghost)\b\s*(?:\w+\s*)?\{")
+CLAUSE = re.compile(r"(?:requires|ensures|ghost)\b\*?\s*(?:\w+\s*:?\s*)?\{")
 GHOST_USE = re.compile(r"ghost\s+use\b[^;]*;")
+# Methods and functions of the library that multiply, such as `wrapping_mul` and `pow`.
+MULTIPLIES = re.compile(r"(?:\w+_)?(?:mul|pow)(?:_\w+)?")
 # Words behind which an operand is still to come.
 OPENING = {"else", "if", "in", "let", "match", "mut", "return", "while"}
 
@@ -77,7 +84,7 @@ def multiplications(text):
     for line, kind, token in tokens(text):
         if before == "fn":
             function = token
-        if token == "*=" or token == "*" and operand:
+        if token == "*=" or token == "*" and operand or before in (".", ":") and MULTIPLIES.fullmatch(token):
             found.append((line, function))
         operand = kind == "literal" or token in (")", "]", "}") or kind == "word" and token not in OPENING
         before = token
@@ -115,15 +122,18 @@ MORE = {
     "of a block": "fn f(a: bool) -> u8 { let n = if a { 1 } else { 2 } * 3; n }",
     "in a constant": "const SIZE: usize = 4 * 2048;",
     "in an array's length": "fn f() -> [u8; 2 * 8] { [0; 16] }",
-    "behind a contract": "fn f(a: u8) -> u8\n    requires { ⌜ a * 2 < 4 ⌝ }\n    ensures small { λ r. ⌜ g {n = 2} a ≡ r ⌝ }\n{ a * 2 }",
+    "behind a contract": "fn f(a: u8) -> u8\n    requires { a * 2 < 4 }\n    ensures small { g {n = 2} a ≡ result }\n{ a * 2 }",
+    "by a method": "fn f(a: u32) -> u32 { a.wrapping_mul(3) }",
+    "by a function of the library": "fn f(a: u32) -> u32 { u32::pow(a, 2) }",
     "behind a text": 'fn f(a: u8) -> u8 { put(b"\\" // \\\\"); a * 2 }',
     "behind a quotation mark": "fn f(a: u8) -> u8 { put(b'\"'); put(b'\\''); a * 2 }",
     "behind a lifetime": "fn f<'a>(a: &'a u8) -> u8 { 2 * *a }",
 }
 NONE = {
     "a comment": "// a * b\nfn f() -> u8 { 2 /* a * b */ }",
-    "a contract": "fn f(a: u8) -> u8\n    requires { ⌜ a * 2 < 4 ⌝ }\n    ensures small { λ r. ⌜ g {n = 2} (a * 2) ≡ r ⌝ }\n{ a }",
-    "an import": "ghost use Prim.Native.Nat.{_*_, _+_};",
+    "a contract": "fn f(a: u8) -> u8\n    requires { a * 2 < 4 }\n    ensures small { g {n = 2} (a * 2) ≡ result }\n    ensures* { a * 2 }\n{ a }",
+    "a ghost field": "struct S {\n    n: u8,\n    ghost twice: { n * 2 };\n}",
+    "an import": "ghost use Rattle.std.specs.Prelude.{◌*◌, ◌+◌};",
     "a text": 'const STAR: [u8; 5] = *b"a * b";',
     "a byte": "fn f(a: u8) -> bool { a == b'*' }",
     "dereferences": "fn f<'a>(x: &'a mut u8, y: &u8) -> u8 { *x = *y; if *y < 3 { return *y; } 1 + *x }",
@@ -159,51 +169,157 @@ def trials(sources):
 
 # ---- the MIR
 
-# With the second operand, where that is a number.
-PRODUCT = re.compile(r"\(mul \w+\) \(copy \(place \d+ lnil\)\) \(int 64 (\d+)\)|\(mul ")
+
+def walk(node):
+    """Each part of a function's MIR."""
+    yield node
+    if isinstance(node, (dict, list)):
+        for part in node.values() if isinstance(node, dict) else node:
+            yield from walk(part)
 
 
-def products(mir):
-    """The names of the functions that multiply, each as often as it does; an index does not count."""
-    for function in mir.split('(fn-def "')[1:]:
-        for number in PRODUCT.findall(function):
-            if bin(int(number or 0)).count("1") != 1:
-                yield function.split('"')[0]
+def is_size(operand):
+    """Whether it is a power of two, or the size of a type."""
+    if "SizeOf" in operand:
+        return True
+    number = operand["Int"]["value"] if "Int" in operand else 0
+    return number != 0 and number & (number - 1) == 0
 
 
-def check_lowered(mir):
-    """Holds a crate's MIR to the one multiplication, or to none where it does not have that function."""
-    found = list(products(mir))
-    wanted = [LOWERED] * mir.count(f'(fn-def "{LOWERED}"')
-    if found != wanted:
-        raise Fault(f"these functions multiply: {', '.join(found) or 'none'}; due: {', '.join(wanted) or 'none'}")
+def products(function):
+    """The products of a function's MIR but for those of an index."""
+    for node in walk(function):
+        if isinstance(node, dict) and "Op2" in node:
+            op, _, second = node["Op2"]
+            name = op if isinstance(op, str) else next(iter(op))
+            if "Mul" in name and not (name == "Mul" and is_size(second)):
+                yield node
 
 
-def lowered(crate):
-    answer = subprocess.run(["rt", "mir", crate], cwd=ROOT, stdout=subprocess.PIPE, stderr=subprocess.STDOUT, text=True)
-    if answer.returncode or "(fn-def " not in answer.stdout:
-        raise Fault(f"rt mir {crate}: {answer.stdout[-300:]}")
-    return answer.stdout
+class Libraries:
+    """The functions of libraries, by the name of each: those of the crates for C as they are given, the others as found."""
+
+    def __init__(self, given, find):
+        self.given, self.of, self.find = [*given], given, find
+
+    def __getitem__(self, crate):
+        if crate not in self.of:
+            self.of[crate] = self.find(crate)
+        return self.of[crate]
+
+    def named(self, text):
+        """The functions that a text of the MIR can stand for: the one of that name, or the methods of the impl."""
+        if "::" in text and re.match(r"\w+::", text):
+            functions = self[text.split("::")[0]]
+            if text in functions:
+                yield text
+            yield from (name for name in functions if name.startswith(text + "::"))
+
+    def reached(self):
+        """The functions that those of the crates for C reach, these too."""
+        left = [name for crate in self.given for name in self.of[crate]]
+        found = set(left)
+        while left:
+            name = left.pop()
+            for node in walk(self[name.split("::")[0]][name]):
+                more = [it for it in self.named(node) if it not in found] if isinstance(node, str) else ()
+                found.update(more)
+                left += more
+        return found
+
+
+def check_lowered(libraries):
+    """Holds the functions that the crates for C reach to the one multiplication."""
+    found = [name for name in sorted(libraries.reached()) for _ in products(libraries[name.split("::")[0]][name])]
+    if found != [LOWERED]:
+        raise Fault(f"these functions multiply: {', '.join(found) or 'none'}; due: {LOWERED}, once")
+
+
+def read_mir(rlib):
+    try:
+        functions = json.loads((rlib / "toolchain/mir.json").read_text())
+    except OSError as error:
+        raise Fault(f"there is no MIR: {error}; ./kob staticlib builds the libraries")
+    return dict(functions)
+
+
+def uses():
+    """The libraries that each crate lists."""
+    lines = re.findall(r"^(\w+)(?: staticlib)?:(.*)", (ROOT / "crates.txt").read_text(), re.MULTILINE)
+    return {name: listed.split() for name, listed in lines}
+
+
+def below(crate, listed):
+    """The libraries of this checkout that a crate reaches."""
+    found = dict.fromkeys(it for it in listed[crate] if it in listed)
+    return dict.fromkeys(more for it in found for more in (it, *below(it, listed)))
+
+
+def rlib_of(crate):
+    return ROOT / f"crates/{crate}/out/rlib/{crate}.rlib"
+
+
+def built_as_library(crate, listed, kit):
+    """The MIR of a crate for C, built, and so proved, as a library."""
+    words = ["--crate-name", crate, "src/lib.rt", "--links", f"{crate}=", "--jobs", "1"]
+    for name in ("std", *listed[crate]):
+        words += ["--extern", f"{name}={rlib_of(name) if name in listed else kit / f'rlibs/{name}.rlib'}"]
+    for folder in (kit / "rlibs", *(rlib_of(name).parent for name in below(crate, listed))):
+        words += ["-L", f"dependency={folder}"]
+    words += ["--antt-project", kit / "rattle/logic/antt-project.json", "--logic-built", kit / "logic_built"]
+    with tempfile.TemporaryDirectory() as folder:
+        rlib = Path(folder) / f"{crate}.rlib"
+        command = [kit / "bin/rattle", "build", *words, "-o", rlib]
+        ran = subprocess.run(command, cwd=ROOT / f"crates/{crate}", stdout=subprocess.PIPE, stderr=subprocess.STDOUT, text=True)
+        if ran.returncode:
+            raise Fault(f"rattle build of {crate}: {ran.stdout[-300:]}")
+        return read_mir(rlib)
+
+
+def archive():
+    kit = Path(subprocess.run(["rt", "doc"], stdout=subprocess.PIPE, text=True, check=True).stdout.strip()).parent
+    listed = uses()
+    parts = [crate for crate in listed if re.fullmatch(r"capi\w*", crate)]
+    with ThreadPoolExecutor(2) as pool:
+        functions = list(pool.map(lambda crate: built_as_library(crate, listed, kit), parts))
+    return Libraries(
+        dict(zip(parts, functions)), lambda name: read_mir(rlib_of(name) if name in listed else kit / f"rlibs/{name}.rlib")
+    )
 
 
 def check_archive():
-    """The crates of the archive: those that have the function have its one multiplication, and one of them does."""
-    crates = re.findall(r"^(capi\w*):", (ROOT / "crates.txt").read_text(), re.MULTILINE)
-    printed = [lowered(crate) for crate in crates]
-    for mir in printed:
-        check_lowered(mir)
-    if not any(LOWERED in mir for mir in printed):
-        raise Fault(f"{LOWERED} is in no crate of the archive")
+    check_lowered(archive())
 
 
-def with_function(second):
-    return f'(fn-def "planted" (assign (place 0 lnil) (op2 (mul unsigned) (copy (place 1 lnil)) ({second}))))'
+# ---- trials on a crate for C that calls one function of a library
+
+ONE = {"Op2": [{"Mul": "Unsigned"}, {"Copy": {"local": 3, "steps": []}}, {"Copy": {"local": 4, "steps": []}}]}
+INDEX = {"Op2": [{"Mul": "Unsigned"}, {"Copy": {"local": 3, "steps": []}}, {"Int": {"width": 64, "value": 8}}]}
+TWELVE = {"Op2": [{"Mul": "Unsigned"}, {"Copy": {"local": 3, "steps": []}}, {"Int": {"width": 64, "value": 12}}]}
+WRAPPED = {"Op2": ["WrapMul", {"Copy": {"local": 3, "steps": []}}, {"Int": {"width": 64, "value": 8}}]}
+
+
+def planted(*assigned):
+    """A crate for C whose one function calls the one that multiplies and another, which does this and has an uncalled one beside it."""
+
+    def body(*parts):
+        return {"params": 2, "body": ["Seq", *({"Assign": [{"local": 0, "steps": []}, part]} for part in parts), "Return"]}
+
+    def called(name):
+        return {"Call": [{"Fn": [name, {"types": [], "dicts": []}]}, [], {"local": 1, "steps": []}]}
+
+    libraries = {
+        "common": {LOWERED: body(ONE)},
+        "planted": {"planted::f": body(*assigned), "planted::uncalled": body(TWELVE)},
+    }
+    return Libraries({"capi": {"capi::call": body(called(LOWERED), called("planted::f"))}}, lambda name: libraries.get(name, {}))
 
 
 def lowered_trials():
-    for name, second in {"of two values": "copy (place 2 lnil)", "by twelve": "int 64 12"}.items():
-        yield f"a multiplication {name}", expect_refused, check_lowered, with_function(second)
-    yield "an index, which is none", check_lowered, with_function("int 64 8")
+    for name, second in {"of two values": ONE, "by twelve": TWELVE, "that wraps": WRAPPED}.items():
+        yield f"a multiplication {name}", expect_refused, check_lowered, planted(second)
+    yield "no multiplication", expect_refused, check_lowered, Libraries({"capi": {}}, lambda name: {})
+    yield "an index, which is none, and one that is not reached", check_lowered, planted(INDEX)
 
 
 def main():
