@@ -5,7 +5,6 @@
 ghost use Rattle.std.specs.Prelude.{◌<◌, ◌≤◌, length};
 
 use itoa::Buffer;
-use std::io::Write;
 
 pub fn put_byte(out: &mut [u8], at: usize, b: u8) -> usize {
     if at < out.len() {
@@ -93,6 +92,6 @@ pub fn start_of(out: &[u8], n: usize) -> &[u8] {
 }
 
 // Writes the first n bytes, or all where there are fewer. Whether they were written.
-pub fn write_start<W: Write>(to: &mut W, out: &[u8], n: usize) -> bool {
+pub fn write_start<P: Print>(to: &P, out: &[u8], n: usize) -> bool {
     to.write_all(start_of(out, n)).is_ok()
 }
