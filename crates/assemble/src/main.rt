@@ -1,11 +1,12 @@
 // Assembles the text on standard input: its words go to standard output, as four bytes each or as lines of hexadecimal
 // digits. It stops at the first line that is wrong, and says what is wrong with it. docs/asm.md has the format.
 #![tactic(auto)]
+
 use assembly::{Assembled, put_fault};
-use libc::{STDERR_FILENO, STDOUT_FILENO};
+use std::io::{Stderr, Stdin, Stdout};
 use text::{next_line, put_byte, put_number, put_text, put_word, write_start};
 
-// The option comes on a descriptor of its own, since a Rattle program reads no arguments here.
+// The option comes on a descriptor of its own. Only the kit's `io` reads one by its number.
 const OPTION_FILENO: i32 = 3;
 
 // The longest line of the text, without its line feed.
@@ -51,20 +52,20 @@ fn number_after(lines: u64) -> u64 {
 
 // ---- what is wrong with a line
 
-fn tell_fault(line: &[u8], number: u64) {
+fn tell_fault(line: &[u8], number: u64, stderr: Stderr) {
     let mut out = [0u8; MESSAGE];
     let numbered = put_number(&mut out, 0, b"kob asm: line ", number);
     let told = put_fault(&mut out, numbered, line, 0);
     let n = put_byte(&mut out, told, b'\n');
-    write_start(STDERR_FILENO, &out, n);
+    write_start(&stderr, &out, n);
 }
 
-fn tell_length(number: u64) {
+fn tell_length(number: u64, stderr: Stderr) {
     let mut out = [0u8; MESSAGE];
     let numbered = put_number(&mut out, 0, b"kob asm: line ", number);
     let told = put_number(&mut out, numbered, b": longer than ", MOST_LINE as u64);
     let n = put_text(&mut out, told, b" bytes\n");
-    write_start(STDERR_FILENO, &out, n);
+    write_start(&stderr, &out, n);
 }
 
 // ---- lines
@@ -95,9 +96,16 @@ fn put_code(out: &mut [u8], at: usize, word: u32, hex: bool) -> usize {
     put_byte(out, third, (word / 16777216 % 256) as u8)
 }
 
-fn take_line(line: &[u8], number: u64, hex: bool, out: &mut [u8], words: usize) -> Step {
+fn take_line(
+    line: &[u8],
+    number: u64,
+    hex: bool,
+    out: &mut [u8],
+    words: usize,
+    stderr: Stderr,
+) -> Step {
     if is_too_long(line) {
-        tell_length(number);
+        tell_length(number, stderr);
         return Step::Wrong;
     }
     let assembled = assembly::assemble(line, 0);
@@ -105,7 +113,7 @@ fn take_line(line: &[u8], number: u64, hex: bool, out: &mut [u8], words: usize) 
         Assembled::Nothing => Step::More(words),
         Assembled::Word(word) => Step::More(put_code(out, words, word, hex)),
         Assembled::Wrong => {
-            tell_fault(line, number);
+            tell_fault(line, number, stderr);
             Step::Wrong
         }
     }
@@ -117,7 +125,14 @@ fn is_open(line: &[u8], last: bool) -> bool {
 }
 
 // The lines of a piece, after so many before it, up to one that has not ended. The last piece ends its last.
-fn take_lines(piece: &[u8], last: bool, lines: u64, hex: bool, out: &mut [u8]) -> Course {
+fn take_lines(
+    piece: &[u8],
+    last: bool,
+    lines: u64,
+    hex: bool,
+    out: &mut [u8],
+    stderr: Stderr,
+) -> Course {
     let mut at = 0;
     let mut number = lines;
     let mut words = 0;
@@ -129,7 +144,7 @@ fn take_lines(piece: &[u8], last: bool, lines: u64, hex: bool, out: &mut [u8]) -
             break;
         }
         number = number_after(number);
-        let step = take_line(line, number, hex, out, words);
+        let step = take_line(line, number, hex, out, words, stderr);
         match step {
             Step::More(next) => {
                 words = next;
@@ -171,33 +186,49 @@ fn over(lines: u64) -> Reading {
 }
 
 // Assembles what is held, and writes the words of its lines.
-fn take_held(held: &[u8], last: bool, lines: u64, hex: bool, out: &mut [u8]) -> Course {
-    let mut course = take_lines(held, last, lines, hex, out);
+fn take_held(
+    held: &[u8],
+    last: bool,
+    lines: u64,
+    hex: bool,
+    out: &mut [u8],
+    stdout: Stdout,
+    stderr: Stderr,
+) -> Course {
+    let mut course = take_lines(held, last, lines, hex, out, stderr);
     if !course.live {
         return course;
     }
-    if !write_start(STDOUT_FILENO, out, course.words) {
-        io::write_all(STDERR_FILENO, b"kob asm: the output could not be written\n");
+    if !write_start(&stdout, out, course.words) {
+        let _ = stderr.write_all(b"kob asm: the output could not be written\n");
         course.live = false;
     }
     course
 }
 
 // Reads and assembles one piece. One that does not fill the buffer is the last.
-fn take_piece(buf: &mut [u8], reading: Reading, hex: bool, out: &mut [u8]) -> Reading {
+fn take_piece(
+    buf: &mut [u8],
+    reading: Reading,
+    hex: bool,
+    out: &mut [u8],
+    mut stdin: Stdin,
+    stdout: Stdout,
+    stderr: Stderr,
+) -> Reading {
     let kept = reading.kept;
     if buf.len() < kept {
         // Not reached: what is kept was in the buffer.
         return over(reading.lines);
     }
-    let filled = input::fill(&mut buf[kept..]);
+    let filled = input::fill(&mut stdin, &mut buf[kept..]);
     if filled.failed {
-        io::write_all(STDERR_FILENO, b"kob asm: the input could not be read\n");
+        let _ = stderr.write_all(b"kob asm: the input could not be read\n");
         return over(reading.lines);
     }
     let n = kept + filled.length;
     let last = n < buf.len();
-    let course = take_held(&buf[0..n], last, reading.lines, hex, out);
+    let course = take_held(&buf[0..n], last, reading.lines, hex, out, stdout, stderr);
     Reading {
         kept: move_to_start(buf, course.at, n),
         lines: course.lines,
@@ -205,22 +236,26 @@ fn take_piece(buf: &mut [u8], reading: Reading, hex: bool, out: &mut [u8]) -> Re
     }
 }
 
-fn assemble_all(buf: &mut [u8], hex: bool, out: &mut [u8]) {
+fn assemble_all(
+    buf: &mut [u8],
+    hex: bool,
+    out: &mut [u8],
+    stdin: Stdin,
+    stdout: Stdout,
+    stderr: Stderr,
+) {
     let mut reading = Reading {
         kept: 0,
         lines: 0,
         live: true,
     };
     for _ in 0..PIECES {
-        reading = take_piece(buf, reading, hex, out);
+        reading = take_piece(buf, reading, hex, out, stdin, stdout, stderr);
         if !reading.live {
             return;
         }
     }
-    io::write_all(
-        STDERR_FILENO,
-        b"kob asm: the text is longer than 2^55 bytes\n",
-    );
+    let _ = stderr.write_all(b"kob asm: the text is longer than 2^55 bytes\n");
 }
 
 // Whether the words are to be lines: there is one option, and without it an empty line, or nothing.
@@ -229,8 +264,15 @@ fn wants_hex() -> bool {
     io::read_full(OPTION_FILENO, &mut option) == 2
 }
 
-fn main() {
+fn main(rt: HostRuntime) {
     let mut buf = [0u8; PIECE];
     let mut out = [0u8; PIECE];
-    assemble_all(&mut buf, wants_hex(), &mut out);
+    assemble_all(
+        &mut buf,
+        wants_hex(),
+        &mut out,
+        rt.stdin(),
+        rt.stdout(),
+        rt.stderr(),
+    );
 }

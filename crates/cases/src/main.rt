@@ -2,14 +2,15 @@
 // Kind 1 runs a program of so many words as the number says, which come last; kind 2 executes the number as a word. Both print the number answered, the words done, the flag and a digest of the file that is left.
 // Kind 3 asks for the register of that number, and prints the number answered, the length and a digest of the part to read, the length of the part to fill, and a digest of the file with that part's bytes complemented.
 #![tactic(auto)]
-ghost use Rattle.std.specs.Prelude.{◌<◌, ◌≤◌};
-ghost use Rattle.io.specs.Counts.{IsPrefixLen};
+
+ghost use Rattle.std.specs.Prelude.{◌≡◌, ◌<◌, ◌≤◌, length, take};
 
 use common::bits32::word;
 use isa::types::Ran;
-use libc::{STDIN_FILENO, STDOUT_FILENO};
 use regfile::check::{asked_number, check_register};
 use regfile::part::{register, register_read};
+use std::io;
+use std::io::{Read, Stdin, Stdout};
 
 // Nothing says that the input ends, so the loop counts the cases.
 const MOST: usize = 100000;
@@ -76,10 +77,10 @@ fn mixed(x: u64, byte: u8) -> u64 {
 
 // ---- reading
 
-fn read_words(words: &mut [u32]) -> bool {
+fn read_words(mut stdin: Stdin, words: &mut [u32]) -> bool {
     for i in 0..words.len() {
         let mut b = [0u8; 4];
-        if io::read_full(STDIN_FILENO, &mut b) < 4 {
+        if stdin.read_exact(&mut b).is_err() {
             return false;
         }
         words[i] = word(b[0], b[1], b[2], b[3]);
@@ -88,9 +89,9 @@ fn read_words(words: &mut [u32]) -> bool {
 }
 
 // The file from its seed, or read.
-fn read_file(file: &mut [u8], seed: u32) -> bool {
+fn read_file(mut stdin: Stdin, file: &mut [u8], seed: u32) -> bool {
     if seed == 0 {
-        return io::read_full(STDIN_FILENO, file) == file.len();
+        return stdin.read_exact(file).is_ok();
     }
     fill(file, seed);
     true
@@ -98,21 +99,20 @@ fn read_file(file: &mut [u8], seed: u32) -> bool {
 
 // ---- printing
 
-fn print_number(n: usize) {
-    io::print_decimal(STDOUT_FILENO, n as u64);
-    io::write_all(STDOUT_FILENO, b" ");
+fn print_number(stdout: Stdout, n: usize) -> io::Result<()> {
+    print!(stdout; "{n} ")
 }
 
-fn print_digest(bytes: &[u8]) {
-    io::print_hex(STDOUT_FILENO, digest(bytes), 16);
+fn print_digest(stdout: Stdout, bytes: &[u8]) -> io::Result<()> {
+    print!(stdout; "{:016x}", digest(bytes))
 }
 
-fn print_ran(ran: Ran, file: &[u8]) {
+fn print_ran(stdout: Stdout, ran: Ran, file: &[u8]) -> io::Result<()> {
     let ending = ran.ending;
-    print_number(exec::ending_number(ending) as usize);
-    print_number(ran.done);
-    print_number(if ran.qc { 1 } else { 0 });
-    print_digest(file);
+    print_number(stdout, exec::ending_number(ending) as usize)?;
+    print_number(stdout, ran.done)?;
+    print_number(stdout, if ran.qc { 1 } else { 0 })?;
+    print_digest(stdout, file)
 }
 
 // ---- a register asked for
@@ -125,22 +125,22 @@ fn complement(part: &mut [u8]) -> usize {
     part.len()
 }
 
-fn print_check(l: usize, size: usize, n: usize) {
+fn print_check(stdout: Stdout, l: usize, size: usize, n: usize) -> io::Result<()> {
     let asked = check_register(l, size, n);
-    print_number(asked_number(asked) as usize);
+    print_number(stdout, asked_number(asked) as usize)
 }
 
-fn print_part(part: &[u8]) {
-    print_number(part.len());
-    print_digest(part);
-    io::write_all(STDOUT_FILENO, b" ");
+fn print_part(stdout: Stdout, part: &[u8]) -> io::Result<()> {
+    print_number(stdout, part.len())?;
+    print_digest(stdout, part)?;
+    print!(stdout; " ")
 }
 
-fn print_register(l: usize, file: &mut [u8], n: usize) {
-    print_check(l, file.len(), n);
-    print_part(register_read(l, file, n));
-    print_number(complement(register(l, file, n)));
-    print_digest(file);
+fn print_register(stdout: Stdout, l: usize, file: &mut [u8], n: usize) -> io::Result<()> {
+    print_check(stdout, l, file.len(), n)?;
+    print_part(stdout, register_read(l, file, n))?;
+    print_number(stdout, complement(register(l, file, n)))?;
+    print_digest(stdout, file)
 }
 
 // ---- cases
@@ -152,7 +152,7 @@ fn wide(x: u32) -> usize {
 // Room for a file, of which `size` bytes will be lent.
 fn byte_space(size: usize) -> [u8; 8704]
     requires { size ≤ 8704 }
-    ensures { IsPrefixLen size result }
+    ensures { (size ≤ length result) × (size ≡ length (take size result)) }
 {
     [0; 8704]
 }
@@ -160,71 +160,103 @@ fn byte_space(size: usize) -> [u8; 8704]
 // Room for a program, of which `count` words will be lent.
 fn word_space(count: usize) -> [u32; 4097]
     requires { count ≤ 4097 }
-    ensures { IsPrefixLen count result }
+    ensures { (count ≤ length result) × (count ≡ length (take count result)) }
 {
     [0; 4097]
 }
 
-fn print_run(l: usize, file: &mut [u8], qc: bool, words: &mut [u32]) -> bool {
-    if !read_words(words) {
-        return false;
+fn print_run(
+    stdin: Stdin,
+    stdout: Stdout,
+    l: usize,
+    file: &mut [u8],
+    qc: bool,
+    words: &mut [u32],
+) -> io::Result<bool> {
+    if !read_words(stdin, words) {
+        return Ok(false);
     }
-    print_ran(exec::run(l, file, qc, words), file);
-    true
+    print_ran(stdout, exec::run(l, file, qc, words), file)?;
+    Ok(true)
 }
 
-fn run_sized(l: usize, file: &mut [u8], qc: bool, count: usize) -> bool {
+fn run_sized(
+    stdin: Stdin,
+    stdout: Stdout,
+    l: usize,
+    file: &mut [u8],
+    qc: bool,
+    count: usize,
+) -> io::Result<bool> {
     if 4097 < count {
-        return false;
+        return Ok(false);
     }
     let mut words = word_space(count);
-    print_run(l, file, qc, &mut words[..count])
+    print_run(stdin, stdout, l, file, qc, &mut words[..count])
 }
 
-fn print_case(kind: u32, l: usize, file: &mut [u8], qc: bool, number: u32) -> bool {
+fn print_case(
+    stdin: Stdin,
+    stdout: Stdout,
+    kind: u32,
+    l: usize,
+    file: &mut [u8],
+    qc: bool,
+    number: u32,
+) -> io::Result<bool> {
     match kind {
         1 => {
-            return run_sized(l, file, qc, wide(number));
+            return run_sized(stdin, stdout, l, file, qc, wide(number));
         }
-        2 => print_ran(exec::execute(l, file, qc, number), file),
-        3 => print_register(l, file, wide(number)),
+        2 => print_ran(stdout, exec::execute(l, file, qc, number), file)?,
+        3 => print_register(stdout, l, file, wide(number))?,
         _ => {
-            return false;
+            return Ok(false);
         }
     }
-    true
+    Ok(true)
 }
 
-fn case_on(head: [u32; 6], file: &mut [u8]) -> bool {
-    if !read_file(file, head[5]) {
-        return false;
+fn case_on(stdin: Stdin, stdout: Stdout, head: [u32; 6], file: &mut [u8]) -> io::Result<bool> {
+    if !read_file(stdin, file, head[5]) {
+        return Ok(false);
     }
-    if !print_case(head[0], wide(head[1]), file, head[3] == 1, head[4]) {
-        return false;
+    if !print_case(
+        stdin,
+        stdout,
+        head[0],
+        wide(head[1]),
+        file,
+        head[3] == 1,
+        head[4],
+    )? {
+        return Ok(false);
     }
-    io::write_all(STDOUT_FILENO, b"\n");
-    true
+    print!(stdout; "\n")?;
+    Ok(true)
 }
 
-fn case_sized(head: [u32; 6], size: usize) -> bool {
+fn case_sized(stdin: Stdin, stdout: Stdout, head: [u32; 6], size: usize) -> io::Result<bool> {
     if 8704 < size {
-        return false;
+        return Ok(false);
     }
     let mut bytes = byte_space(size);
-    case_on(head, &mut bytes[..size])
+    case_on(stdin, stdout, head, &mut bytes[..size])
 }
 
-fn run_case() -> bool {
+fn run_case(stdin: Stdin, stdout: Stdout) -> io::Result<bool> {
     let mut head = [0u32; 6];
-    if !read_words(&mut head) {
-        return false;
+    if !read_words(stdin, &mut head) {
+        return Ok(false);
     }
-    case_sized(head, wide(head[2]))
+    case_sized(stdin, stdout, head, wide(head[2]))
 }
 
-fn main() {
-    let mut left = MOST;
-    while 0 < left && run_case() {
-        left -= 1;
+fn main(rt: HostRuntime) -> io::Result<()> {
+    for _ in 0..MOST {
+        if !run_case(rt.stdin(), rt.stdout())? {
+            break;
+        }
     }
+    Ok(())
 }

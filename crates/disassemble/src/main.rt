@@ -1,11 +1,12 @@
 // Writes a line for each instruction word of standard input: an assembly text that gives the same words back. docs/asm.md has the format.
 #![tactic(auto)]
+
 ghost use Rattle.std.specs.Prelude.{◌≤◌, length};
 
 use codec::word_at;
 use grammar::types::LineWritten;
 use isa::types::{Decoded, Op};
-use libc::{STDERR_FILENO, STDOUT_FILENO};
+use std::io::{Stderr, Stdin, Stdout};
 use text::{put_byte, put_number, put_text, put_word, write_start};
 
 // Bytes of one piece: a multiple of 4.
@@ -74,7 +75,7 @@ fn put_lines(out: &mut [u8], bytes: &[u8]) -> usize {
     at
 }
 
-fn tell_left_over(n: usize) {
+fn tell_left_over(n: usize, stderr: Stderr) {
     let mut out = [0u8; MESSAGE];
     let told = put_number(
         &mut out,
@@ -83,52 +84,52 @@ fn tell_left_over(n: usize) {
         n as u64,
     );
     let end = put_byte(&mut out, told, b'\n');
-    write_start(STDERR_FILENO, &out, end);
+    write_start(&stderr, &out, end);
 }
 
-fn write_lines(bytes: &[u8], out: &mut [u8]) -> bool {
+fn write_lines(bytes: &[u8], out: &mut [u8], stdout: Stdout, stderr: Stderr) -> bool {
     let n = put_lines(out, bytes);
-    if write_start(STDOUT_FILENO, out, n) {
+    if write_start(&stdout, out, n) {
         return true;
     }
-    io::write_all(
-        STDERR_FILENO,
-        b"kob disasm: the output could not be written\n",
-    );
+    let _ = stderr.write_all(b"kob disasm: the output could not be written\n");
     false
 }
 
 // Reads a piece and writes its lines. A piece that does not fill the buffer is the last. Whether more may follow.
-fn take_piece(buf: &mut [u8], out: &mut [u8]) -> bool {
-    let filled = input::fill(buf);
+fn take_piece(
+    buf: &mut [u8],
+    out: &mut [u8],
+    mut stdin: Stdin,
+    stdout: Stdout,
+    stderr: Stderr,
+) -> bool {
+    let filled = input::fill(&mut stdin, buf);
     let n = filled.length;
-    if !write_lines(&buf[0..n], out) {
+    if !write_lines(&buf[0..n], out, stdout, stderr) {
         return false;
     }
     if filled.failed {
-        io::write_all(STDERR_FILENO, b"kob disasm: the input could not be read\n");
+        let _ = stderr.write_all(b"kob disasm: the input could not be read\n");
         return false;
     }
     if n % 4 != 0 {
-        tell_left_over(n % 4);
+        tell_left_over(n % 4, stderr);
     }
     n == buf.len()
 }
 
-fn take_all(buf: &mut [u8], out: &mut [u8]) {
+fn take_all(buf: &mut [u8], out: &mut [u8], stdin: Stdin, stdout: Stdout, stderr: Stderr) {
     for _ in 0..PIECES {
-        if !take_piece(buf, out) {
+        if !take_piece(buf, out, stdin, stdout, stderr) {
             return;
         }
     }
-    io::write_all(
-        STDERR_FILENO,
-        b"kob disasm: the input is longer than 2^55 bytes\n",
-    );
+    let _ = stderr.write_all(b"kob disasm: the input is longer than 2^55 bytes\n");
 }
 
-fn main() {
+fn main(rt: HostRuntime) {
     let mut buf = [0u8; PIECE];
     let mut out = [0u8; ROOM];
-    take_all(&mut buf, &mut out);
+    take_all(&mut buf, &mut out, rt.stdin(), rt.stdout(), rt.stderr());
 }

@@ -1,6 +1,7 @@
 // Reads a length, a flag, words and registers as text, runs the words, and prints what came of them.
 // docs/execute.md has the format.
 #![tactic(auto)]
+
 ghost use Rattle.std.specs.Prelude.{◌≤◌};
 
 mod fault;
@@ -14,7 +15,7 @@ use crate::parse::{Parsed, Request, read_text};
 use crate::part::part_mut;
 use crate::report::put_report;
 use isa::types::Ran;
-use libc::{STDERR_FILENO, STDOUT_FILENO};
+use std::io::{Stderr, Stdout};
 use text::write_start;
 
 // The longest text.
@@ -47,21 +48,29 @@ fn run(request: Request, file: &mut [u8], words: &[u32]) -> Ran {
     exec::run(request.length, held, request.qc, &words[0..count])
 }
 
-fn tell(request: Request, ran: Ran, before: &[u8], after: &[u8], words: &[u32]) {
+fn tell(
+    request: Request,
+    ran: Ran,
+    before: &[u8],
+    after: &[u8],
+    words: &[u32],
+    stdout: Stdout,
+    stderr: Stderr,
+) {
     let mut out = [0u8; OUT];
     let n = put_report(&mut out, request, ran, before, after, words);
-    if !write_start(STDOUT_FILENO, &out, n) {
-        io::write_all(STDERR_FILENO, b"kob run: the output could not be written\n");
+    if !write_start(&stdout, &out, n) {
+        let _ = stderr.write_all(b"kob run: the output could not be written\n");
     }
 }
 
-fn refuse(fault: Fault, line: u64, text: &[u8]) {
+fn refuse(fault: Fault, line: u64, text: &[u8], stderr: Stderr) {
     let mut out = [0u8; MESSAGE];
     let n = put_fault(&mut out, fault, line, text);
-    write_start(STDERR_FILENO, &out, n);
+    write_start(&stderr, &out, n);
 }
 
-fn execute(text: &[u8]) {
+fn execute(text: &[u8], stdout: Stdout, stderr: Stderr) {
     let mut file = [0u8; FILE];
     let mut words = [0u32; WORDS];
     let parsed = read_text(text, &mut file, &mut words);
@@ -69,29 +78,28 @@ fn execute(text: &[u8]) {
         Parsed::Taken(request) => {
             let before = file;
             let ran = run(request, &mut file, &words);
-            tell(request, ran, &before, &file, &words);
+            tell(request, ran, &before, &file, &words, stdout, stderr);
         }
         Parsed::Wrong(fault, line, at) => {
             let start = least(at, text.len());
-            refuse(fault, line, &text[start..]);
+            refuse(fault, line, &text[start..], stderr);
         }
     }
 }
 
-fn main() {
+fn main(rt: HostRuntime) {
     let mut text = [0u8; TEXT];
-    let filled = input::fill(&mut text);
+    let mut stdin = rt.stdin();
+    let stderr = rt.stderr();
+    let filled = input::fill(&mut stdin, &mut text);
     if filled.failed {
-        io::write_all(STDERR_FILENO, b"kob run: the input could not be read\n");
+        let _ = stderr.write_all(b"kob run: the input could not be read\n");
         return;
     }
     let n = filled.length;
     if MOST_TEXT < n {
-        io::write_all(
-            STDERR_FILENO,
-            b"kob run: the input is longer than 65536 bytes\n",
-        );
+        let _ = stderr.write_all(b"kob run: the input is longer than 65536 bytes\n");
         return;
     }
-    execute(&text[0..n]);
+    execute(&text[0..n], rt.stdout(), stderr);
 }

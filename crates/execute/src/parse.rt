@@ -16,7 +16,7 @@ const MOST_BITS: usize = 4096;
 
 // What the lines so far ask for: the length, once it is given, the flag, the bytes of a lane (0: print bytes), the
 // registers that are printed in any case (bit n for register n), and the number of words.
-#[derive(Drop)]
+#[derive(Clone, Copy)]
 pub struct Request {
     pub given: bool,
     pub length: usize,

@@ -1,12 +1,14 @@
 // Works the stored cases of standard input with the kernels, and prints the 16 bytes that come of each.
 // A case has 52 bytes: family, size, quarter turns (by element: form) and index; then 16 bytes each of the addend c, the first source n and the second source m. CADD, SQCADD and SQDMULH use no n.
 #![tactic(auto)]
+
 ghost use Rattle.std.specs.Prelude.{◌≡◌, true};
 ghost use Rattle.isa.specs.Stage.{crossed};
 
 use common::element::Saturated;
 use isa::types::{Form, Rotation, Size};
-use libc::{STDIN_FILENO, STDOUT_FILENO};
+use std::io;
+use std::io::{Read, Stdin, Stdout};
 
 // Nothing says that the input ends, so the loop counts the cases.
 const MOST: usize = 100000;
@@ -160,23 +162,24 @@ fn sqrdmlsh(
 
 // ---- printing
 
-fn print_bytes(b: [u8; 16]) {
+fn print_bytes(stdout: Stdout, b: [u8; 16]) -> io::Result<()> {
     for i in 0..16 {
-        print_byte(b[i]);
+        print_byte(stdout, b[i])?;
     }
+    Ok(())
 }
 
-fn print_byte(x: u8) {
-    io::print_hex(STDOUT_FILENO, x as u64, 2);
+fn print_byte(stdout: Stdout, x: u8) -> io::Result<()> {
+    print!(stdout; "{x:02x}")
 }
 
-fn print_saturated(s: Saturated) {
+fn print_saturated(stdout: Stdout, s: Saturated) -> io::Result<()> {
     let bytes = s.bytes;
-    print_bytes(bytes);
+    print_bytes(stdout, bytes)?;
     if s.clamped {
-        io::write_all(STDOUT_FILENO, b" 1");
+        print!(stdout; " 1")
     } else {
-        io::write_all(STDOUT_FILENO, b" 0");
+        print!(stdout; " 0")
     }
 }
 
@@ -186,45 +189,51 @@ fn wide(x: u8) -> usize {
     x as usize
 }
 
-fn print_case(head: [u8; 4], c: [u8; 16], n: [u8; 16], m: [u8; 16]) {
+fn print_case(
+    stdout: Stdout,
+    head: [u8; 4],
+    c: [u8; 16],
+    n: [u8; 16],
+    m: [u8; 16],
+) -> io::Result<()> {
     let size = size_of(head[1]);
     let rot = rotation_of(head[2]);
     let form = form_of(head[2]);
     let index = wide(head[3]);
     match head[0] {
-        0 => print_bytes(cadd(size, add_rotation_of(head[2]), c, m)),
-        1 => print_bytes(sqcadd(size, add_rotation_of(head[2]), c, m)),
-        2 => print_bytes(cmla(size, rot, c, n, m)),
-        3 => print_bytes(cmla_indexed(size, rot, index, c, n, m)),
-        4 => print_bytes(sqrdcmlah(size, rot, c, n, m)),
-        5 => print_bytes(sqrdcmlah_indexed(size, rot, index, c, n, m)),
-        6 => print_saturated(sqrdmlah(size, form, index, c, n, m)),
-        7 => print_saturated(sqrdmlsh(size, form, index, c, n, m)),
-        _ => print_bytes(sqdmulh(size, c, m)),
+        0 => print_bytes(stdout, cadd(size, add_rotation_of(head[2]), c, m))?,
+        1 => print_bytes(stdout, sqcadd(size, add_rotation_of(head[2]), c, m))?,
+        2 => print_bytes(stdout, cmla(size, rot, c, n, m))?,
+        3 => print_bytes(stdout, cmla_indexed(size, rot, index, c, n, m))?,
+        4 => print_bytes(stdout, sqrdcmlah(size, rot, c, n, m))?,
+        5 => print_bytes(stdout, sqrdcmlah_indexed(size, rot, index, c, n, m))?,
+        6 => print_saturated(stdout, sqrdmlah(size, form, index, c, n, m))?,
+        7 => print_saturated(stdout, sqrdmlsh(size, form, index, c, n, m))?,
+        _ => print_bytes(stdout, sqdmulh(size, c, m))?,
     }
-    io::write_all(STDOUT_FILENO, b"\n");
+    print!(stdout; "\n")
 }
 
-fn run_case() -> bool {
+fn run_case(mut stdin: Stdin, stdout: Stdout) -> io::Result<bool> {
     let mut head = [0u8; 4];
     let mut c = [0u8; 16];
     let mut n = [0u8; 16];
     let mut m = [0u8; 16];
-    if io::read_full(STDIN_FILENO, &mut head) < 4 {
-        return false;
+    let read = stdin.read_exact(&mut head).is_ok()
+        && stdin.read_exact(&mut c).is_ok()
+        && stdin.read_exact(&mut n).is_ok()
+        && stdin.read_exact(&mut m).is_ok();
+    if read {
+        print_case(stdout, head, c, n, m)?;
     }
-    io::read_full(STDIN_FILENO, &mut c);
-    io::read_full(STDIN_FILENO, &mut n);
-    if io::read_full(STDIN_FILENO, &mut m) < 16 {
-        return false;
-    }
-    print_case(head, c, n, m);
-    true
+    Ok(read)
 }
 
-fn main() {
-    let mut left = MOST;
-    while 0 < left && run_case() {
-        left -= 1;
+fn main(rt: HostRuntime) -> io::Result<()> {
+    for _ in 0..MOST {
+        if !run_case(rt.stdin(), rt.stdout())? {
+            break;
+        }
     }
+    Ok(())
 }

@@ -2,15 +2,17 @@
 // Kind 1 reads: the text's length and its bytes. It prints the length and the number, and the eight fields of the operation or the length of the longest beginning.
 // Kind 2 writes: a room and the eight fields of an operation. It prints the room, the number, the line's length and all of a buffer whose first bytes are the room.
 #![tactic(auto)]
+
 ghost use Rattle.std.specs.Prelude.{◌<◌};
 
 use fields::types::Named;
 use fields::{fields_of, named_by, read_numbers};
 use grammar::types::{LineRead, LineWritten};
 use isa::types::Op;
-use libc::{STDIN_FILENO, STDOUT_FILENO};
 use line_reader::read_line;
 use line_writer::write_line;
+use std::io;
+use std::io::{Read, Stdin, Stdout};
 
 // Nothing says that the input ends, so the loop counts the cases.
 const MOST: usize = 100000;
@@ -26,57 +28,55 @@ const TILDE: u8 = 0x7e;
 
 // ---- printing
 
-fn print_count(n: usize) {
-    io::write_all(STDOUT_FILENO, b" ");
-    io::print_decimal(STDOUT_FILENO, n as u64);
+fn print_count(stdout: Stdout, n: usize) -> io::Result<()> {
+    print!(stdout; " {n}")
 }
 
-fn print_number(n: u32) {
-    io::write_all(STDOUT_FILENO, b" ");
-    io::print_decimal(STDOUT_FILENO, n as u64);
+fn print_number(stdout: Stdout, n: u32) -> io::Result<()> {
+    print!(stdout; " {n}")
 }
 
-fn print_fields(f: [u32; 8]) {
-    print_number(f[0]);
-    print_number(f[1]);
-    print_number(f[2]);
-    print_number(f[3]);
-    print_number(f[4]);
-    print_number(f[5]);
-    print_number(f[6]);
-    print_number(f[7]);
+fn print_fields(stdout: Stdout, f: [u32; 8]) -> io::Result<()> {
+    print_number(stdout, f[0])?;
+    print_number(stdout, f[1])?;
+    print_number(stdout, f[2])?;
+    print_number(stdout, f[3])?;
+    print_number(stdout, f[4])?;
+    print_number(stdout, f[5])?;
+    print_number(stdout, f[6])?;
+    print_number(stdout, f[7])
 }
 
-fn print_read(text: &[u8]) {
-    io::write_all(STDOUT_FILENO, b"R");
-    print_count(text.len());
+fn print_read(stdout: Stdout, text: &[u8]) -> io::Result<()> {
+    print!(stdout; "R")?;
+    print_count(stdout, text.len())?;
     let read = read_line(text);
     match read {
         LineRead::Operation(op) => {
-            print_number(0);
-            print_fields(fields_of(op));
+            print_number(stdout, 0)?;
+            print_fields(stdout, fields_of(op))
         }
         LineRead::NotLine(k) => {
-            print_number(12);
-            print_count(k);
+            print_number(stdout, 12)?;
+            print_count(stdout, k)
         }
     }
 }
 
-fn print_answer(number: u32, length: usize) {
-    print_number(number);
-    print_count(length);
+fn print_answer(stdout: Stdout, number: u32, length: usize) -> io::Result<()> {
+    print_number(stdout, number)?;
+    print_count(stdout, length)
 }
 
-fn print_written(written: LineWritten) {
+fn print_written(stdout: Stdout, written: LineWritten) -> io::Result<()> {
     match written {
-        LineWritten::Length(n) => print_answer(0, n),
-        LineWritten::NoSize => print_answer(7, 0),
-        LineWritten::NoRotation => print_answer(8, 0),
-        LineWritten::RegisterLimit => print_answer(9, 0),
-        LineWritten::GroupStart => print_answer(14, 0),
-        LineWritten::IndexLimit => print_answer(10, 0),
-        LineWritten::Room => print_answer(13, 0),
+        LineWritten::Length(n) => print_answer(stdout, 0, n),
+        LineWritten::NoSize => print_answer(stdout, 7, 0),
+        LineWritten::NoRotation => print_answer(stdout, 8, 0),
+        LineWritten::RegisterLimit => print_answer(stdout, 9, 0),
+        LineWritten::GroupStart => print_answer(stdout, 14, 0),
+        LineWritten::IndexLimit => print_answer(stdout, 10, 0),
+        LineWritten::Room => print_answer(stdout, 13, 0),
     }
 }
 
@@ -89,89 +89,94 @@ fn wide(x: u8) -> u32
 }
 
 // The next number of standard input; 0, which is no kind, where it has ended.
-fn read_number() -> u32 {
+fn read_number(mut stdin: Stdin) -> u32 {
     let mut b = [0u8; 4];
-    if io::read_full(STDIN_FILENO, &mut b) < 4 {
+    if stdin.read_exact(&mut b).is_err() {
         return 0;
     }
     wide(b[0]) + (wide(b[1]) << 8) + (wide(b[2]) << 16) + (wide(b[3]) << 24)
 }
 
-fn read_fields() -> [u32; 8] {
+fn read_fields(stdin: Stdin) -> [u32; 8] {
     [
-        read_number(),
-        read_number(),
-        read_number(),
-        read_number(),
-        read_number(),
-        read_number(),
-        read_number(),
-        read_number(),
+        read_number(stdin),
+        read_number(stdin),
+        read_number(stdin),
+        read_number(stdin),
+        read_number(stdin),
+        read_number(stdin),
+        read_number(stdin),
+        read_number(stdin),
     ]
 }
 
-fn read_text(text: &mut [u8], length: usize) -> bool {
+fn read_text(mut stdin: Stdin, text: &mut [u8], length: usize) -> bool {
     if text.len() < length {
         return false;
     }
-    io::read_full(STDIN_FILENO, &mut text[0..length]) == length
+    stdin.read_exact(&mut text[0..length]).is_ok()
 }
 
-fn print_text(text: &[u8], length: usize) -> bool {
+fn print_text(stdout: Stdout, text: &[u8], length: usize) -> io::Result<bool> {
     if text.len() < length {
-        return false;
+        return Ok(false);
     }
-    print_read(&text[0..length]);
-    true
+    print_read(stdout, &text[0..length])?;
+    Ok(true)
 }
 
-fn read_case(length: usize) -> bool {
+fn read_case(stdin: Stdin, stdout: Stdout, length: usize) -> io::Result<bool> {
     let mut text = [0u8; TEXT];
-    read_text(&mut text, length) && print_text(&text, length)
-}
-
-fn write_text(op: Op, buffer: &mut [u8], room: usize) -> bool {
-    if buffer.len() < room {
-        return false;
+    if !read_text(stdin, &mut text, length) {
+        return Ok(false);
     }
-    io::write_all(STDOUT_FILENO, b"W");
-    print_count(room);
-    print_written(write_line(op, &mut buffer[0..room]));
-    io::write_all(STDOUT_FILENO, b" ");
-    true
+    print_text(stdout, &text, length)
 }
 
-fn write_operation(room: usize, op: Op) -> bool {
+fn write_text(stdout: Stdout, op: Op, buffer: &mut [u8], room: usize) -> io::Result<bool> {
+    if buffer.len() < room {
+        return Ok(false);
+    }
+    print!(stdout; "W")?;
+    print_count(stdout, room)?;
+    print_written(stdout, write_line(op, &mut buffer[0..room]))?;
+    print!(stdout; " ")?;
+    Ok(true)
+}
+
+fn write_operation(stdout: Stdout, room: usize, op: Op) -> io::Result<bool> {
     let mut buffer = [TILDE; BUFFER];
-    let worked = write_text(op, &mut buffer, room);
-    io::write_all(STDOUT_FILENO, &buffer);
-    worked
+    let worked = write_text(stdout, op, &mut buffer, room)?;
+    stdout.write_all(&buffer)?;
+    Ok(worked)
 }
 
-fn write_case(room: usize, f: [u32; 8]) -> bool {
+fn write_case(stdout: Stdout, room: usize, f: [u32; 8]) -> io::Result<bool> {
     let named = named_by(read_numbers(&f));
     match named {
-        Named::Operation(op) => write_operation(room, op),
-        Named::Nothing => false,
+        Named::Operation(op) => write_operation(stdout, room, op),
+        Named::Nothing => Ok(false),
     }
 }
 
-fn run_case() -> bool {
-    let kind = read_number();
+fn run_case(stdin: Stdin, stdout: Stdout) -> io::Result<bool> {
+    let kind = read_number(stdin);
     let worked = match kind {
-        1 => read_case(read_number() as usize),
-        2 => write_case(read_number() as usize, read_fields()),
+        1 => read_case(stdin, stdout, read_number(stdin) as usize)?,
+        2 => write_case(stdout, read_number(stdin) as usize, read_fields(stdin))?,
         _ => false,
     };
     if worked {
-        io::write_all(STDOUT_FILENO, b"\n");
+        print!(stdout; "\n")?;
     }
-    worked
+    Ok(worked)
 }
 
-fn main() {
-    let mut left = MOST;
-    while 0 < left && run_case() {
-        left -= 1;
+fn main(rt: HostRuntime) -> io::Result<()> {
+    for _ in 0..MOST {
+        if !run_case(rt.stdin(), rt.stdout())? {
+            break;
+        }
     }
+    Ok(())
 }

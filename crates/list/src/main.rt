@@ -1,9 +1,10 @@
 // Lists the instruction words of standard input on standard output.
 #![tactic(auto)]
+
 ghost use Rattle.std.specs.Prelude.{◌≤◌};
 
 use isa::types::Listed;
-use libc::{STDERR_FILENO, STDOUT_FILENO};
+use std::io::{Stderr, Stdin, Stdout};
 
 // The most words that are listed.
 const LIMIT: usize = 1048576;
@@ -24,18 +25,22 @@ enum Step {
 }
 
 // Lists and writes one piece, where `done` words were listed before.
-fn list_bytes(done: usize, bytes: &[u8], last: bool, out: &mut [u8]) -> Step {
+fn list_bytes(
+    done: usize,
+    bytes: &[u8],
+    last: bool,
+    out: &mut [u8],
+    stdout: Stdout,
+    stderr: Stderr,
+) -> Step {
     let listed = listing::list_part(done, bytes, last, out);
     let Listed::Text(part) = listed else {
         // Not reached: ROOM is enough for a full piece.
         return Step::Over;
     };
     let length = part.length;
-    if !io::write_all(STDOUT_FILENO, &out[..length]) {
-        io::write_all(
-            STDERR_FILENO,
-            b"kob list: the output could not be written\n",
-        );
+    if stdout.write_all(&out[..length]).is_err() {
+        let _ = stderr.write_all(b"kob list: the output could not be written\n");
         return Step::Over;
     }
     if part.ended {
@@ -56,23 +61,30 @@ fn wanted(done: usize, most: usize) -> usize
 }
 
 // Reads, lists and writes one piece. A piece that does not fill the buffer is the last.
-fn list_piece(done: usize, buf: &mut [u8], out: &mut [u8]) -> Step {
-    let filled = input::fill(buf);
+fn list_piece(
+    done: usize,
+    buf: &mut [u8],
+    out: &mut [u8],
+    mut stdin: Stdin,
+    stdout: Stdout,
+    stderr: Stderr,
+) -> Step {
+    let filled = input::fill(&mut stdin, buf);
     if filled.failed {
-        io::write_all(STDERR_FILENO, b"kob list: the input could not be read\n");
+        let _ = stderr.write_all(b"kob list: the input could not be read\n");
         return Step::Over;
     }
     let n = filled.length;
     let last = n < buf.len();
-    list_bytes(done, &buf[..n], last, out)
+    list_bytes(done, &buf[..n], last, out, stdout, stderr)
 }
 
 // Nothing says that the input ends, so the loop counts the pieces.
-fn list_all(buf: &mut [u8], out: &mut [u8]) {
+fn list_all(buf: &mut [u8], out: &mut [u8], stdin: Stdin, stdout: Stdout, stderr: Stderr) {
     let mut done = 0;
     for _ in 0..PIECES {
         let most = wanted(done, buf.len());
-        let step = list_piece(done, &mut buf[..most], out);
+        let step = list_piece(done, &mut buf[..most], out, stdin, stdout, stderr);
         let Step::More(next) = step else {
             return;
         };
@@ -80,8 +92,8 @@ fn list_all(buf: &mut [u8], out: &mut [u8]) {
     }
 }
 
-fn main() {
+fn main(rt: HostRuntime) {
     let mut buf = [0u8; PIECE];
     let mut out = [0u8; ROOM];
-    list_all(&mut buf, &mut out);
+    list_all(&mut buf, &mut out, rt.stdin(), rt.stdout(), rt.stderr());
 }

@@ -4,11 +4,13 @@
 // 3 hands the same trace to a stream: a piece of b % 65,536 bytes, then pieces of b / 65,536 bytes, as far as there are so many, each behind an empty one. What a call does not take is handed in again.
 // It prints the bytes taken, number, kind and place of each call that tells something, or takes not all; then the same of the calls behind: the number of an end, four numbers of a byte handed in, and the number of an end.
 #![tactic(auto)]
+
 ghost use Rattle.std.specs.Prelude.{◌≤◌};
 
 use codec::word_at;
-use libc::{STDIN_FILENO, STDOUT_FILENO};
 use replay::number::{accepted_cases, accepted_number, judged_kind, judged_number, judged_place};
+use std::io;
+use std::io::{Read, Stdin, Stdout};
 use stream::State;
 use stream::number::{end_number, told_kind, told_number, told_place};
 use trace::types::{Accepted, Judged, Told, Verdict};
@@ -21,14 +23,13 @@ const ROOM: usize = 65600;
 
 // ---- printing
 
-fn print_number(n: usize) {
-    io::print_decimal(STDOUT_FILENO, n as u64);
-    io::write_all(STDOUT_FILENO, b" ");
+fn print_number(stdout: Stdout, n: usize) -> io::Result<()> {
+    print!(stdout; "{n} ")
 }
 
-fn print_accepted(accepted: Accepted) {
-    print_number(accepted_number(accepted) as usize);
-    print_number(accepted_cases(accepted));
+fn print_accepted(stdout: Stdout, accepted: Accepted) -> io::Result<()> {
+    print_number(stdout, accepted_number(accepted) as usize)?;
+    print_number(stdout, accepted_cases(accepted))
 }
 
 // The byte that the run leaves at a place that differs.
@@ -42,12 +43,11 @@ fn expected_byte(judged: Judged) -> u8 {
     expected
 }
 
-fn print_judged(judged: Judged) {
-    print_number(judged_number(judged) as usize);
-    print_number(judged_kind(judged) as usize);
-    print_number(judged_place(judged));
-    io::print_decimal(STDOUT_FILENO, expected_byte(judged) as u64);
-    io::write_all(STDOUT_FILENO, b"\n");
+fn print_judged(stdout: Stdout, judged: Judged) -> io::Result<()> {
+    print_number(stdout, judged_number(judged) as usize)?;
+    print_number(stdout, judged_kind(judged) as usize)?;
+    print_number(stdout, judged_place(judged))?;
+    println!(stdout; "{}", expected_byte(judged))
 }
 
 // ---- streams
@@ -82,39 +82,39 @@ fn is_over(told: Told) -> bool {
     }
 }
 
-fn print_told(taken: usize, told: Told) {
-    print_number(taken);
-    print_number(told_number(told) as usize);
-    print_number(told_kind(told) as usize);
-    print_number(told_place(told));
+fn print_told(stdout: Stdout, taken: usize, told: Told) -> io::Result<()> {
+    print_number(stdout, taken)?;
+    print_number(stdout, told_number(told) as usize)?;
+    print_number(stdout, told_kind(told) as usize)?;
+    print_number(stdout, told_place(told))
 }
 
 // A call that tells nothing and takes all is not printed.
-fn print_fed(given: usize, taken: usize, told: Told) {
+fn print_fed(stdout: Stdout, given: usize, taken: usize, told: Told) -> io::Result<()> {
     if is_nothing(told) && taken == given {
-        return;
+        return Ok(());
     }
-    print_told(taken, told);
+    print_told(stdout, taken, told)
 }
 
-fn print_empty(state: State) -> State {
+fn print_empty(stdout: Stdout, state: State) -> io::Result<State> {
     let fed = state.feed(b"");
     let told = fed.told;
-    print_fed(0, fed.taken, told);
-    fed.state
+    print_fed(stdout, 0, fed.taken, told)?;
+    Ok(fed.state)
 }
 
 // An empty piece, and one of so many bytes or those that are left.
-fn hand_in(trace: &[u8], size: usize, course: Course) -> Course {
+fn hand_in(stdout: Stdout, trace: &[u8], size: usize, course: Course) -> io::Result<Course> {
     let at = course.at;
     let before = course.state;
-    let state = print_empty(before);
+    let state = print_empty(stdout, before)?;
     if trace.len() < at {
-        return Course {
+        return Ok(Course {
             at,
             live: false,
             state,
-        };
+        });
     }
     let left = trace.len() - at;
     let given = least(size, left);
@@ -123,53 +123,53 @@ fn hand_in(trace: &[u8], size: usize, course: Course) -> Course {
     let told = fed.told;
     let after = fed.state;
     let taken = least(fed.taken, left);
-    print_fed(given, fed.taken, told);
-    Course {
+    print_fed(stdout, given, fed.taken, told)?;
+    Ok(Course {
         at: at + taken,
         live: taken < left && !is_over(told),
         state: after,
-    }
+    })
 }
 
-fn print_end(state: State) -> State {
+fn print_end(stdout: Stdout, state: State) -> io::Result<State> {
     let closed = state.end();
     let end = closed.end;
-    print_number(end_number(end) as usize);
-    closed.state
+    print_number(stdout, end_number(end) as usize)?;
+    Ok(closed.state)
 }
 
 // An end, and a byte and an end behind it.
-fn print_ends(state: State) {
-    let ended = print_end(state);
+fn print_ends(stdout: Stdout, state: State) -> io::Result<()> {
+    let ended = print_end(stdout, state)?;
     let fed = ended.feed(b"\x01");
     let told = fed.told;
     let after = fed.state;
-    print_told(fed.taken, told);
+    print_told(stdout, fed.taken, told)?;
     let closed = after.end();
     let end = closed.end;
-    io::print_decimal(STDOUT_FILENO, end_number(end) as u64);
-    io::write_all(STDOUT_FILENO, b"\n");
+    println!(stdout; "{}", end_number(end))
 }
 
-fn print_stream(trace: &[u8], first: usize, step: usize) {
+fn print_stream(stdout: Stdout, trace: &[u8], first: usize, step: usize) -> io::Result<()> {
     let start = Course {
         at: 0,
         live: true,
         state: State::new(),
     };
-    let mut course = hand_in(trace, first, start);
-    let mut left = MOST;
-    while 0 < left && course.live {
-        course = hand_in(trace, step, course);
-        left -= 1;
+    let mut course = hand_in(stdout, trace, first, start)?;
+    for _ in 0..MOST {
+        if !course.live {
+            break;
+        }
+        course = hand_in(stdout, trace, step, course)?;
     }
     let last = course.state;
-    print_ends(last);
+    print_ends(stdout, last)
 }
 
 // ---- records
 
-fn put(buffer: &mut [u8], at: usize, size: usize) -> bool {
+fn put(mut stdin: Stdin, buffer: &mut [u8], at: usize, size: usize) -> bool {
     if buffer.len() < at {
         return false;
     }
@@ -177,49 +177,58 @@ fn put(buffer: &mut [u8], at: usize, size: usize) -> bool {
         return false;
     }
     let end = at + size;
-    io::read_full(STDIN_FILENO, &mut buffer[at..end]) == size
+    stdin.read_exact(&mut buffer[at..end]).is_ok()
 }
 
-fn print_case(trace: &[u8], n: usize) {
-    print_accepted(replay::check(trace));
-    print_judged(replay::judge(trace, n));
+fn print_case(stdout: Stdout, trace: &[u8], n: usize) -> io::Result<()> {
+    print_accepted(stdout, replay::check(trace))?;
+    print_judged(stdout, replay::judge(trace, n))
 }
 
-fn ask(buffer: &[u8], size: usize, n: usize) -> bool {
+fn ask(stdout: Stdout, buffer: &[u8], size: usize, n: usize) -> io::Result<bool> {
     if buffer.len() < size {
-        return false;
+        return Ok(false);
     }
-    print_case(&buffer[0..size], n);
-    true
+    print_case(stdout, &buffer[0..size], n)?;
+    Ok(true)
 }
 
-fn hand(buffer: &[u8], size: usize, cut: usize) -> bool {
+fn hand(stdout: Stdout, buffer: &[u8], size: usize, cut: usize) -> io::Result<bool> {
     if buffer.len() < size {
-        return false;
+        return Ok(false);
     }
-    print_stream(&buffer[0..size], cut % 65536, cut / 65536);
-    true
+    print_stream(stdout, &buffer[0..size], cut % 65536, cut / 65536)?;
+    Ok(true)
 }
 
 fn wide(x: u32) -> usize {
     x as usize
 }
 
-fn work(kind: u32, a: usize, b: usize, buffer: &mut [u8; ROOM]) -> bool {
+fn work(
+    stdin: Stdin,
+    stdout: Stdout,
+    kind: u32,
+    a: usize,
+    b: usize,
+    buffer: &mut [u8; ROOM],
+) -> io::Result<bool> {
     match kind {
-        1 => put(buffer, a, b),
-        2 => ask(buffer, a, b),
-        3 => hand(buffer, a, b),
-        _ => false,
+        1 => Ok(put(stdin, buffer, a, b)),
+        2 => ask(stdout, buffer, a, b),
+        3 => hand(stdout, buffer, a, b),
+        _ => Ok(false),
     }
 }
 
-fn work_record(buffer: &mut [u8; ROOM]) -> bool {
+fn work_record(mut stdin: Stdin, stdout: Stdout, buffer: &mut [u8; ROOM]) -> io::Result<bool> {
     let mut head = [0u8; 12];
-    if io::read_full(STDIN_FILENO, &mut head) < 12 {
-        return false;
+    if stdin.read_exact(&mut head).is_err() {
+        return Ok(false);
     }
     work(
+        stdin,
+        stdout,
         word_at(&head, 0),
         wide(word_at(&head, 4)),
         wide(word_at(&head, 8)),
@@ -227,10 +236,12 @@ fn work_record(buffer: &mut [u8; ROOM]) -> bool {
     )
 }
 
-fn main() {
+fn main(rt: HostRuntime) -> io::Result<()> {
     let mut buffer = [0u8; ROOM];
-    let mut left = MOST;
-    while 0 < left && work_record(&mut buffer) {
-        left -= 1;
+    for _ in 0..MOST {
+        if !work_record(rt.stdin(), rt.stdout(), &mut buffer)? {
+            break;
+        }
     }
+    Ok(())
 }

@@ -4,7 +4,7 @@ ghost use Rattle.std.specs.Prelude.{◌≡◌, ◌+◌, ◌*◌, ◌<◌, ◌≤
 use replay::reader::{Read, read_number};
 
 // The length in bits, the number of words, and the start of the body.
-#[derive(Drop)]
+#[derive(Clone, Copy)]
 pub struct Case {
     pub bits: u32,
     pub words: u32,

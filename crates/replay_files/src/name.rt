@@ -1,4 +1,4 @@
-// The name of the trace's file. It comes on a descriptor of its own, since a Rattle program reads no arguments here.
+// The name of the trace's file. It comes on a descriptor of its own. Only the kit's `io` reads one by its number.
 ghost use Rattle.std.specs.Prelude.{◌≤◌, length};
 
 use text::put_byte;

@@ -8,7 +8,7 @@ ghost use Rattle.input.specs.Filled.{ReadInto};
 
 use crate::case::put_case;
 use crate::contents::{Found, body_size, end_place, entry_place, first_fault, listed_case};
-use crate::output::{agreeing, write_counts, write_line, write_progress, write_unread};
+use crate::output::{Streams, agreeing, write_counts, write_line, write_progress, write_unread};
 use crate::refusal::put_refusal;
 use input::Filled;
 use stream::State;
@@ -27,7 +27,7 @@ const MOST: usize = 33574918;
 const MEBIBYTE: usize = 1048576;
 
 // A trace that is being read: how many of the bytes that were read before are taken, how many cases agree, whether it goes on, and the stream.
-#[derive(Drop)]
+#[derive(Clone, Copy)]
 struct Reading {
     place: usize,
     agree: u32,
@@ -90,11 +90,11 @@ fn part_size(state: State) -> usize {
 }
 
 // Bytes for the part at hand: of those that were read before, else what the input has by now.
-fn fetch(first: &[u8], place: usize, lacking: &mut [u8]) -> Filled
+fn fetch(first: &[u8], place: usize, lacking: &mut [u8], mut streams: Streams) -> Filled
     ensures { ReadInto result.length lacking.old lacking.new }
 {
     if first.len() <= place {
-        return input::read_some(lacking);
+        return input::read_some(&mut streams.stdin, lacking);
     }
     Filled {
         length: copy(lacking, &first[place..]),
@@ -124,12 +124,19 @@ fn tell_progress(line: &mut [u8], start: usize, done: u32, cases: u32, bytes: us
 }
 
 // The line of the case at hand, and the progress where its body ends in another mebibyte than it starts in. Whether the line was written.
-fn tell_case(body: &[u8], line: &mut [u8], start: usize, state: State, verdict: Verdict) -> bool {
+fn tell_case(
+    body: &[u8],
+    line: &mut [u8],
+    start: usize,
+    state: State,
+    verdict: Verdict,
+    streams: Streams,
+) -> bool {
     let contents = state.contents;
     let k = narrow(state.marks.case);
     let case = listed_case(&contents, k);
     let n = put_case(line, start, k, case, body, verdict);
-    if !write_line(line, n) {
+    if !write_line(line, n, streams) {
         return false;
     }
     let end = end_place(case);
@@ -159,17 +166,18 @@ fn tell_refusal(
     start: usize,
     reading: Reading,
     end: End,
+    streams: Streams,
 ) {
     let state = reading.state;
     let found = fault(part, ended, state);
     let n = put_refusal(line, start, end_number(end) as u64, found, part.len());
-    if write_line(line, n) {
+    if write_line(line, n, streams) {
         write_counts(narrow(state.marks.case), reading.agree, 1);
     }
 }
 
 // At the end of the input.
-fn tell_end(part: &[u8], line: &mut [u8], start: usize, reading: Reading) {
+fn tell_end(part: &[u8], line: &mut [u8], start: usize, reading: Reading, streams: Streams) {
     let state = reading.state;
     let closed = state.end();
     let end = closed.end;
@@ -177,13 +185,20 @@ fn tell_end(part: &[u8], line: &mut [u8], start: usize, reading: Reading) {
         write_counts(narrow(state.marks.case), reading.agree, 0);
         return;
     }
-    tell_refusal(part, true, line, start, reading, end);
+    tell_refusal(part, true, line, start, reading, end, streams);
 }
 
 // ---- reading
 
 // What the bytes of the part from `at` on bring.
-fn take(part: &[u8], at: usize, line: &mut [u8], start: usize, reading: Reading) -> Reading
+fn take(
+    part: &[u8],
+    at: usize,
+    line: &mut [u8],
+    start: usize,
+    reading: Reading,
+    streams: Streams,
+) -> Reading
     requires { at ≤ length part.now }
 {
     let state = reading.state;
@@ -196,11 +211,11 @@ fn take(part: &[u8], at: usize, line: &mut [u8], start: usize, reading: Reading)
         Told::Nothing => next,
         Told::Case(verdict) => {
             next.agree = reading.agree % 65536 + agreeing(verdict);
-            next.live = tell_case(part, line, start, state, verdict);
+            next.live = tell_case(part, line, start, state, verdict, streams);
             next
         }
         Told::Over(end) => {
-            tell_refusal(part, false, line, start, reading, end);
+            tell_refusal(part, false, line, start, reading, end, streams);
             over(next)
         }
     }
@@ -213,6 +228,7 @@ fn go_on(
     line: &mut [u8],
     start: usize,
     reading: Reading,
+    streams: Streams,
 ) -> Reading {
     let state = reading.state;
     let at = state.marks.course.at;
@@ -221,24 +237,24 @@ fn go_on(
         // Not reached: no part is longer than the buffer, and behind its end stands the next.
         return over(reading);
     }
-    let filled = fetch(first, reading.place, &mut held[at..end]);
+    let filled = fetch(first, reading.place, &mut held[at..end], streams);
     let n = filled.length;
     if filled.failed {
-        write_unread(narrow(state.marks.case), reading.agree);
+        write_unread(narrow(state.marks.case), reading.agree, streams);
         return over(reading);
     }
     if n == 0 {
-        tell_end(&held[0..at], line, start, reading);
+        tell_end(&held[0..at], line, start, reading, streams);
         return over(reading);
     }
     let so_far = at + n;
-    let mut next = take(&held[0..so_far], at, line, start, reading);
+    let mut next = take(&held[0..so_far], at, line, start, reading, streams);
     next.place = place_behind(reading.place, n, first.len());
     next
 }
 
 // The lines of a trace of which some bytes were read before, each from `start` on in a line that begins with the name.
-pub fn tell_pieces(first: &[u8], line: &mut [u8], start: usize) {
+pub fn tell_pieces(first: &[u8], line: &mut [u8], start: usize, streams: Streams) {
     let mut held = [0u8; PART];
     let mut reading = Reading {
         place: 0,
@@ -248,7 +264,7 @@ pub fn tell_pieces(first: &[u8], line: &mut [u8], start: usize) {
     };
     // Nothing says that the input ends, so the loop counts. Each time there is a byte or the end.
     for _ in 0..MOST {
-        reading = go_on(first, &mut held, line, start, reading);
+        reading = go_on(first, &mut held, line, start, reading, streams);
         if !reading.live {
             return;
         }

@@ -1,7 +1,10 @@
 // Text in a lent buffer. Each function takes the place to write at, and answers the place past what it wrote.
 // What does not fit is dropped; a program's buffers have room for the longest that it says.
 #![tactic(auto)]
+
 ghost use Rattle.std.specs.Prelude.{◌<◌, ◌≤◌, length};
+
+use itoa::Buffer;
 
 pub fn put_byte(out: &mut [u8], at: usize, b: u8) -> usize {
     if at < out.len() {
@@ -39,10 +42,9 @@ pub fn put_line(out: &mut [u8], at: usize, text: &[u8], n: usize) -> usize {
 
 // The name of a number, and the number.
 pub fn put_number(out: &mut [u8], at: usize, name: &[u8], n: u64) -> usize {
-    let mut digits = [0u8; 20];
-    let k = io::decimal(n, &mut digits);
+    let mut digits = Buffer::new();
     let named = put_text(out, at, name);
-    put_text(out, named, &digits[..k])
+    put_text(out, named, digits.format(n).as_bytes())
 }
 
 // The value of a hexadecimal digit of either case, and 16 for any other byte.
@@ -84,10 +86,12 @@ pub fn next_line(text: &[u8], at: usize) -> usize
     if i < text.len() { i + 1 } else { text.len() }
 }
 
-// Writes the first n bytes, or all where there are fewer.
-pub fn write_start(fd: i32, out: &[u8], n: usize) -> bool {
-    if n <= out.len() {
-        return io::write_all(fd, &out[0..n]);
-    }
-    io::write_all(fd, out)
+// The first n bytes, or all where there are fewer.
+pub fn start_of(out: &[u8], n: usize) -> &[u8] {
+    if n <= out.len() { &out[0..n] } else { out }
+}
+
+// Writes the first n bytes, or all where there are fewer. Whether they were written.
+pub fn write_start<P: Print>(to: &P, out: &[u8], n: usize) -> bool {
+    to.write_all(start_of(out, n)).is_ok()
 }
