@@ -1,7 +1,6 @@
 -- What a word decodes to, by the numbers that the decoder takes out of its fixed bits. Assumes nothing.
 use Prim.Native.Nat.{ℕ, zero, suc, ◌+◌, ◌*◌, ◌/◌, ◌%◌, ◌^◌, ◌<◌, ◌≤◌}
-use mathlib.Core.Path.{◌≡◌, refl, sym, ap, ◌∙◌}
-use mathlib.Core.List.{List, [], ◌∷◌}
+use mathlib.Core.Path.{◌≡◌, refl, ap, ◌∙◌}
 use mathlib.Core.Bool.{Bool, true, false}
 use mathlib.Core.Logic.{inl, inr}
 use native.Mathlib.Omega.{arith}
@@ -18,7 +17,7 @@ use Rattle.isa.specs.Field.{field_value}
 use Rattle.isa.specs.Table.{size, Q, i2, i1, ZmH, ZmS, cadd, sqcadd, cmla, sqrdcmlah, cmla_h, cmla_s, sqrdcmlah_h, sqrdcmlah_s, sqrdmlah_vector, sqrdmlah_scalar, sqrdmlsh_vector, sqrdmlsh_scalar, sqdmulh_two, sqdmulh_four}
 use Rattle.isa.specs.Decode.{table, decode_of, add_of, mul_of, indexed_of, element_of, vector_of, size_of, rotation_of, add_rotation_of, group_with}
 use Rattle.isa.specs.Register.{by_group}
-use Rattle.isa.proofs.Fields.{Fixed, fixed-matches}
+use Rattle.isa.proofs.Fields.{fixed-matches}
 use Rattle.isa.proofs.Table.{◌⨾◌, row_read, NoneFixed, none-join, none-outside}
 use Rattle.codec.specs.Pair.{form_top, ElementTop, add_by, add_opcode, mul_by, mul_opcode, indexed_by, indexed_opcode, element_by, element_opcode, group_opcode, OtherTop}
 

@@ -1,12 +1,12 @@
 -- The alphabet can be read, and no two templates have a line in common.
-use Prim.Native.Nat.{ℕ, zero, suc, ◌≤◌, ◌<◌}
+use Prim.Native.Nat.{ℕ, zero, suc, ◌<◌}
 use mathlib.Core.Path.{◌≡◌, refl}
-use mathlib.Core.Bool.{Bool, true, false, ◌&&◌}
+use mathlib.Core.Bool.{Bool, true, ◌&&◌}
 use mathlib.Core.List.{List, [], ◌∷◌}
 use native.Mathlib.Decide.{ℕ_discrete}
 use borrow.Author.Tests.{ne_eqb}
 use lib.ListN.{get_or}
-use Rattle.grammar.specs.Template.{Choices, Variables, decimal, count}
+use Rattle.grammar.specs.Template.{Choices, decimal, count}
 use Rattle.grammar.specs.Grammar.{alphabet, unused, letter_b, letter_f, slot_of, variables, templates}
 use Rattle.grammar.proofs.Guess.{and-true, sound_choices, choices-parts}
 use Rattle.grammar.proofs.Follow.{Readable}

@@ -1,17 +1,17 @@
 -- Templates that have no line in common_prefix, by a test that is computed: they go alike, item by item, up to two bytes that differ, or to letters that cannot have one text.
-use Prim.Native.Nat.{ℕ, zero, suc, ◌+◌, ◌*◌, ◌/◌, ◌%◌, ◌≤◌, ◌<◌}
+use Prim.Native.Nat.{ℕ, zero, suc, ◌+◌, ◌/◌, ◌%◌, ◌≤◌, ◌<◌}
 use mathlib.Core.Path.{◌≡◌, refl, sym, ap, ◌∙◌, subst}
 use mathlib.Core.Bool.{Bool, true, false, ◌&&◌, ◌||◌, not}
 use mathlib.Core.List.{List, [], ◌∷◌, ◌++◌}
 use native.Mathlib.Omega.{arith}
 use native.Mathlib.Decide.{ℕ_discrete, dec_le}
-use borrow.Author.Tests.{eqb-true, eqb-false, eq-eqb, not-true}
+use borrow.Author.Tests.{eqb-true, eq-eqb, not-true}
 use lib.Dec.{eqb}
 use lib.ListN.{length, get_or, take, length-append}
 use lib.Seq.{take-append_seam, take_at}
 use Rattle.grammar.specs.Template.{Item, byte, var, Choices, numbers, texts, Variables, decimal, text_of, count, fill, Filled}
 use Rattle.grammar.specs.Follow.{is_digit}
-use Rattle.grammar.proofs.Guess.{and-true, both_true, differ, digit-is, decimal-one, by-tens, sound_choices, separate, numbers-low}
+use Rattle.grammar.proofs.Guess.{and-true, both_true, differ, digit-is, decimal-one, by-tens, sound_choices, numbers-low}
 use Rattle.grammar.proofs.Follow.{follows, ends_number, clear}
 
 -- ---- one byte

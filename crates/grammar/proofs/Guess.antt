@@ -1,17 +1,17 @@
 -- The value that is guessed goes furthest along with a text: `best`. Assumes nothing.
 use Prim.Native.Nat.{ℕ, zero, suc, ◌+◌, ◌-◌, ◌*◌, ◌/◌, ◌%◌, ◌≤◌, ◌<◌}
-use mathlib.Core.Path.{◌≡◌, refl, sym, ap, ◌∙◌, subst}
+use mathlib.Core.Path.{◌≡◌, refl, sym, ap, ◌∙◌}
 use mathlib.Core.Bool.{Bool, true, false, ◌&&◌, not}
-use mathlib.Core.List.{List, [], ◌∷◌, ◌++◌}
+use mathlib.Core.List.{List, [], ◌∷◌}
 use mathlib.Core.Logic.{◌⊎◌, inl, inr}
 use native.Mathlib.Omega.{arith}
 use native.Mathlib.Decide.{ℕ_discrete, dec_le}
-use borrow.Author.Tests.{eq-eqb, ne_eqb, le-leb, lt-leb, lt-ltb, le-ltb, leb-true, ltb-true, eqb-true, eqb-false, not-true}
-use lib.Dec.{eqb, leb, ltb}
+use borrow.Author.Tests.{eq-eqb, ne_eqb, le-leb, lt-ltb, le-ltb, leb-true, ltb-true, eqb-false, not-true}
+use lib.Dec.{eqb, leb}
 use lib.ListN.{length, get_or, drop}
-use Rattle.grammar.specs.Template.{Choices, numbers, texts, decimal, text_of, count, pick_text, pick_number}
+use Rattle.grammar.specs.Template.{Choices, numbers, texts, decimal, text_of, count}
 use Rattle.grammar.specs.Follow.{common_prefix, is_digit, place_of, place_of_tens, found, tens, one_digit, two_digits, guess_number, starting_with, guess_text, guess}
-use Rattle.grammar.proofs.Prefix.{common-same, common-other, common-none, common-nil, common-le}
+use Rattle.grammar.proofs.Prefix.{common-same, common-other, common-none, common-nil}
 
 -- ---- tests
 

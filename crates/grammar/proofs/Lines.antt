@@ -1,27 +1,26 @@
 -- Lines. `line-exact`: a text is read as an operation exactly where it is that operation's line. `line-unique`: two operations never have one line.
 -- `longest`: what is read as no line comes with the longest beginning that some line has; `cut_off`, `empty-line`. Assumes nothing.
-use Prim.Native.Nat.{ℕ, zero, suc, ◌+◌, ◌≤◌, ◌<◌}
+use Prim.Native.Nat.{ℕ, ◌+◌, ◌≤◌, ◌<◌}
 use mathlib.Core.Path.{◌≡◌, refl, sym, ap, ◌∙◌, subst}
 use mathlib.Core.Bool.{true}
-use mathlib.Core.List.{List, [], ◌∷◌, ◌++◌}
-use mathlib.Core.Logic.{◌⊎◌, inl, inr, ⊎_elim}
+use mathlib.Core.List.{List, [], ◌++◌}
+use mathlib.Core.Logic.{⊎_elim}
 use native.Mathlib.Omega.{arith}
-use lib.ListN.{length, get_or, take, drop, take-append-drop, length-take}
+use lib.ListN.{length, get_or, take, drop}
 use lib.Seq.{take-length}
 use Rattle.isa.specs.declared.types.Op.{Op}
 use Rattle.grammar.specs.declared.types.LineRead.{LineRead}
-use Rattle.grammar.specs.Template.{Item, fill}
+use Rattle.grammar.specs.Template.{fill}
 use Rattle.grammar.specs.Follow.{common_prefix, follow}
 use Rattle.grammar.specs.Search.{Search, read, unread, blank, search}
 use Rattle.grammar.specs.Grammar.{variables, templates, pattern_count, pattern_of, values_of, line_of}
-use Rattle.grammar.specs.Line.{Writable, LineOf, Begins, NoLine}
+use Rattle.grammar.specs.Line.{LineOf, Begins, NoLine}
 use Rattle.grammar.specs.Read.{make_at, read_as, read_of}
-use Rattle.grammar.proofs.Prefix.{common-own, common-le, common-le-right, common-take, common-begins}
-use Rattle.grammar.proofs.Guess.{differ}
-use Rattle.grammar.proofs.Follow.{Good, Made, lower, upper, sound}
-use Rattle.grammar.proofs.Search.{Found, found-is, Unread, unread-is, Finds, finds, clear_at, filled-good, blank-agrees, blank-partly}
+use Rattle.grammar.proofs.Prefix.{common-le-right, common-take, common-begins}
+use Rattle.grammar.proofs.Follow.{Made, lower, upper, sound}
+use Rattle.grammar.proofs.Search.{found-is, Unread, unread-is, finds, clear_at, filled-good, blank-agrees, blank-partly}
 use Rattle.grammar.proofs.Alphabet.{most, readable, templates-clear, templates-apart}
-use Rattle.grammar.proofs.Patterns.{Makes, pattern-makes, Remakes}
+use Rattle.grammar.proofs.Patterns.{pattern-makes}
 use Rattle.grammar.proofs.Remakes.{remakes}
 
 -- what a pattern makes of values for its letters is an operation with that line

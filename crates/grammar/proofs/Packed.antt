@@ -9,16 +9,16 @@ use native.Mathlib.Decide.{ℕ_discrete, dec_le}
 use borrow.Author.Tests.{eq-eqb, ne_eqb, le-leb, lt-leb, lt-ltb, le-ltb, leb-true, ltb-true, ltb-false, eqb-true}
 use lib.Dec.{eqb, leb, ltb}
 use lib.ListN.{length, get_or, drop, drop_of_length-le}
-use lib.Seq.{drop-cons, drop-drop}
+use lib.Seq.{drop-cons}
 use Rattle.grammar.specs.Template.{Choices, numbers, texts, decimal, text_of, count, pick_number}
 use Rattle.grammar.specs.Follow.{is_digit, place_of, place_of_tens, found, tens, one_digit, two_digits, guess_number, starting_with, guess_text, guess, unset, common_prefix}
 use Rattle.grammar.specs.Grammar.{progression, below, unused, alphabet, letter_count}
-use Rattle.grammar.specs.Packed.{unpack, text_bytes, rows, RowOf, Row, first_of, shift_of, count_of, packed_texts, numbers_of, texts_of, digit_of, placed, placed_two}
+use Rattle.grammar.specs.Packed.{unpack, text_bytes, RowOf, Row, first_of, shift_of, count_of, packed_texts, numbers_of, texts_of, digit_of, placed, placed_two}
 use Rattle.grammar.proofs.Prefix.{common-same, common-other, common-none, common-nil}
 use Rattle.grammar.proofs.Guess.{and-true, differ, once, sound_choices, place_is, place-has, text-long, sound-texts}
 use Rattle.grammar.proofs.Apart.{all-at}
 use Rattle.grammar.proofs.Alphabet.{sound-letter}
-use Rattle.grammar.proofs.Patterns.{◌⨾◌, Each, each_at}
+use Rattle.grammar.proofs.Patterns.{◌⨾◌, each_at}
 
 -- ---- numbers a step apart
 

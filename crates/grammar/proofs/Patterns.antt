@@ -1,14 +1,14 @@
 -- Each pattern: what its values make can be written and has that line; and the values of an operation make it again. Assumes nothing.
 use Prim.Native.Nat.{ℕ, zero, suc, ◌+◌, ◌*◌, ◌/◌, ◌%◌, ◌≤◌, ◌<◌}
 use mathlib.Core.Path.{◌≡◌, refl, sym, ap, ◌∙◌, subst}
-use mathlib.Core.Bool.{Bool, true, false, ◌&&◌}
-use mathlib.Core.List.{List, [], ◌∷◌, ◌++◌}
-use mathlib.Core.Logic.{◌⊎◌, inl, inr, ⊎_elim}
+use mathlib.Core.Bool.{true, ◌&&◌}
+use mathlib.Core.List.{List, [], ◌∷◌}
+use mathlib.Core.Logic.{⊎_elim}
 use native.Mathlib.Omega.{arith}
 use native.Mathlib.Decide.{ℕ_discrete}
-use borrow.Author.Tests.{eq-eqb, ne_eqb, eqb-true, le-leb, leb-true}
+use borrow.Author.Tests.{eq-eqb, eqb-true, le-leb, leb-true}
 use lib.Dec.{leb}
-use lib.ListN.{length, get_or}
+use lib.ListN.{get_or}
 use Rattle.isa.specs.declared.types.Size.{Size}
 use Rattle.isa.specs.declared.types.Rotation.{Rotation}
 use Rattle.isa.specs.declared.types.Form.{Form}
@@ -24,9 +24,8 @@ use Rattle.isa.specs.Field.{Row}
 use Rattle.isa.specs.Table.{cadd, sqcadd, cmla, sqrdcmlah, cmla_h, cmla_s, sqrdcmlah_h, sqrdcmlah_s, sqrdmlah_vector, sqrdmlah_scalar, sqrdmlsh_vector, sqrdmlsh_scalar, sqdmulh_two, sqdmulh_four}
 use Rattle.isa.specs.Decode.{size_of, rotation_of, add_rotation_of, vector_of}
 use Rattle.isa.specs.Encode.{WriteChecks, write_checks, size_bits, rotation_bits, add_rotation, add_rotation_bits, half_or_single, by_size, add_checks, mul_checks, indexed_checks, element_checks, group_checks}
-use Rattle.grammar.specs.Template.{Item, byte, var, Variables, text_of, count, fill, Filled, bind}
-use Rattle.grammar.specs.Follow.{unset}
-use Rattle.grammar.specs.Grammar.{variables, templates, makers, pattern_count, slot_of, letter_a, letter_d, letter_e, letter_h, letter_i, letter_j, letter_k, letter_l, letter_m, letter_n, letter_p, letter_q, letter_r, letter_s, letter_t, add_from, mul_from, indexed_from, element_from, group_from, pattern_of, values_of, line_of, add_values, mul_values, indexed_values, element_values, group_values, no_values, form_bits, by_form, vector_by}
+use Rattle.grammar.specs.Template.{Item, byte, var, fill, Filled, bind}
+use Rattle.grammar.specs.Grammar.{variables, templates, pattern_count, slot_of, letter_a, letter_d, letter_e, letter_h, letter_i, letter_j, letter_k, letter_l, letter_m, letter_n, letter_p, letter_q, letter_r, letter_s, letter_t, add_from, mul_from, indexed_from, element_from, group_from, pattern_of, values_of, add_values, mul_values, indexed_values, element_values, group_values, no_values, form_bits, by_form}
 use Rattle.grammar.specs.Line.{Writable}
 use Rattle.grammar.specs.Read.{make_at}
 use Rattle.grammar.proofs.Guess.{and-true, both_true, differ}

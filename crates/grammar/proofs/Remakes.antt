@@ -1,8 +1,8 @@
 -- The values of an operation that can be written make it again. Assumes nothing.
-use Prim.Native.Nat.{ℕ, zero, suc, ◌+◌, ◌≤◌, ◌<◌}
+use Prim.Native.Nat.{ℕ, ◌<◌}
 use mathlib.Core.Path.{◌≡◌, refl, sym, ap, ◌∙◌}
-use mathlib.Core.Bool.{true, false}
-use mathlib.Core.List.{List, [], ◌∷◌}
+use mathlib.Core.Bool.{false}
+use mathlib.Core.List.{[]}
 use native.Mathlib.Omega.{arith}
 use lib.Dec.{lit<}
 use lib.ListN.{get_or}
@@ -19,11 +19,10 @@ use Rattle.isa.specs.Table.{cadd, sqcadd, cmla, sqrdcmlah, cmla_h, cmla_s, sqrdc
 use Rattle.isa.specs.Decode.{vector_of}
 use Rattle.isa.specs.Encode.{WriteChecks, write_checks, half_or_single, by_size, indexed_checks, element_checks}
 use Rattle.grammar.specs.Template.{Filled}
-use Rattle.grammar.specs.Grammar.{variables, templates, pattern_count, by_form, form_bits, indexed_from, element_from, indexed_values, letter_a, letter_d, letter_e, letter_h, letter_i, letter_j, letter_k, letter_l, letter_m, letter_n, letter_p, letter_q, letter_r, letter_s, letter_t, pattern_of, values_of, element_values}
+use Rattle.grammar.specs.Grammar.{variables, templates, pattern_count, by_form, form_bits, indexed_from, element_from, indexed_values, letter_a, letter_d, letter_e, letter_h, letter_i, letter_j, letter_k, letter_l, letter_m, letter_n, letter_p, letter_q, letter_r, pattern_of, values_of, element_values}
 use Rattle.grammar.specs.Line.{Writable}
 use Rattle.grammar.specs.Read.{make_at}
 use Rattle.grammar.proofs.Guess.{differ}
-use Rattle.grammar.proofs.Follow.{Agrees}
 use Rattle.grammar.proofs.Patterns.{Remakes, RemakesBy, is_set, add-good, add-again, mul-good, mul-again, indexed-in, indexed-good, indexed-again, element-in, element-good, element-again, group-in, group-good, group-again}
 
 abbrev indexed : Size → ℕ → ℕ → ℕ → ℕ → Rotation → MulIndexed

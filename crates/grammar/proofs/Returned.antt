@@ -1,10 +1,10 @@
 -- Each number, with what stands beside it, is returned exactly when request A1's line holds and no earlier check fails: `read-exact`, `write-exact`.
 -- Assumes nothing.
-use Prim.Native.Nat.{ℕ, ◌≤◌, ◌<◌}
-use mathlib.Core.Path.{◌≡◌, refl, sym, ap, ◌∙◌, subst}
+use Prim.Native.Nat.{ℕ}
+use mathlib.Core.Path.{◌≡◌, refl, subst}
 use mathlib.Core.Logic.{◌↔◌}
 use mathlib.Core.Bool.{Bool, true, false}
-use mathlib.Core.List.{List, [], ◌∷◌}
+use mathlib.Core.List.{List}
 use borrow.Author.Tests.{le-leb, lt-leb, leb-true, leb-false}
 use lib.Dec.{leb}
 use lib.ListN.{length}
@@ -12,7 +12,6 @@ use Rattle.isa.specs.declared.types.Op.{Op}
 use Rattle.isa.specs.Encode.{answer, write_checks, encode_of}
 use Rattle.grammar.specs.declared.types.LineRead.{LineRead}
 use Rattle.grammar.specs.Grammar.{line_of}
-use Rattle.grammar.specs.Line.{Writable}
 use Rattle.grammar.specs.Read.{read_of}
 use Rattle.grammar.specs.Write.{line_answer}
 use Rattle.grammar.specs.Number.{line_read_number, line_read_operation, line_read_length, line_written_number, line_written_length}

@@ -2,16 +2,16 @@
 use Prim.Native.Nat.{ℕ, zero, suc, ◌+◌, ◌≤◌, ◌<◌, max}
 use mathlib.Core.Path.{◌≡◌, refl, sym, ap, ◌∙◌, subst}
 use mathlib.Core.Bool.{Bool, true, false, ◌&&◌}
-use mathlib.Core.List.{List, [], ◌∷◌, ◌++◌}
+use mathlib.Core.List.{List, [], ◌∷◌}
 use mathlib.Core.Logic.{◌⊎◌, inl, inr, ⊎_elim}
 use native.Mathlib.Omega.{arith}
 use native.Mathlib.Decide.{dec_le}
 use lib.ListN.{length, get_or}
-use Rattle.grammar.specs.Template.{Item, byte, var, Variables, count, fill, Filled}
-use Rattle.grammar.specs.Follow.{common_prefix, Followed, unset, follow}
-use Rattle.grammar.specs.Search.{Search, read, unread, pick_search, blank, search}
-use Rattle.grammar.proofs.Guess.{and-true, differ}
-use Rattle.grammar.proofs.Follow.{clear, Good, Partly, Agrees, Readable, Reads, complete, upper, Made, sound, Line, lower}
+use Rattle.grammar.specs.Template.{Item, byte, var, Variables, fill, Filled}
+use Rattle.grammar.specs.Follow.{follow}
+use Rattle.grammar.specs.Search.{read, unread, blank, search}
+use Rattle.grammar.proofs.Guess.{and-true}
+use Rattle.grammar.proofs.Follow.{clear, Good, Partly, Agrees, Readable, complete, Made, sound}
 use Rattle.grammar.proofs.Apart.{apart, no-common}
 
 -- ---- templates that can be read, no two of which have a line in common

@@ -1,7 +1,7 @@
 -- Writing and reading are each other's reverse. `read-written`: what is written is read as the operation. `write_read`: the operation that
 -- a text is read as is written as that text. `written-exact`: a line is written exactly where none of 7 to 10 and 14 applies and the room is enough. Assumes nothing.
 use Prim.Native.Nat.{ℕ, ◌≤◌}
-use mathlib.Core.Path.{◌≡◌, refl, sym, ap, ◌∙◌, subst}
+use mathlib.Core.Path.{◌≡◌, refl, sym, ap, ◌∙◌}
 use mathlib.Core.Bool.{Bool, true, false}
 use mathlib.Core.List.{List, ◌++◌}
 use native.Mathlib.Omega.{arith}
@@ -11,14 +11,14 @@ use lib.ListN.{length, take, drop}
 use lib.Seq.{take-append_seam}
 use Rattle.isa.specs.declared.types.Op.{Op}
 use Rattle.isa.specs.declared.types.Written.{Written}
-use Rattle.isa.specs.Encode.{WriteChecks, answer, write_checks, encode_of}
-use Rattle.isa.proofs.Checks.{passes, word-exact}
+use Rattle.isa.specs.Encode.{write_checks, encode_of}
+use Rattle.isa.proofs.Checks.{word-exact}
 use Rattle.grammar.specs.declared.types.LineRead.{LineRead}
 use Rattle.grammar.specs.declared.types.LineWritten.{LineWritten}
 use Rattle.grammar.specs.Grammar.{line_of}
-use Rattle.grammar.specs.Line.{Writable, LineOf}
+use Rattle.grammar.specs.Line.{Writable}
 use Rattle.grammar.specs.Read.{read_of}
-use Rattle.grammar.specs.Write.{refusing, pick_written, line_answer, left_by, LineOutcome, line_outcome, write_of}
+use Rattle.grammar.specs.Write.{refusing, pick_written, line_answer, left_by, line_outcome, write_of}
 use Rattle.grammar.proofs.Lines.{line-exact}
 
 -- ---- an operation that can be written has a word, and the other way round

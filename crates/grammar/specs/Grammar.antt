@@ -1,9 +1,8 @@
 -- The grammar of lines: a template for each form of an operation, as Arm's pages print it, with a small letter for what varies.
-use Rattle.std.specs.Prelude.{ℕ, zero, suc, ◌+◌, ◌-◌, ◌*◌, ◌/◌, Bool, true, false, ◌&&◌, List, [], ◌∷◌, map, ◌≡◌, eqb, leb, get_or}
+use Rattle.std.specs.Prelude.{ℕ, zero, suc, ◌+◌, ◌-◌, ◌*◌, ◌/◌, Bool, true, false, ◌&&◌, List, [], ◌∷◌, map, eqb, leb, get_or}
 use Prim.Native.Char.{code}
 use Prim.Native.String.{String, [] as none, ◌∷◌ as ◌then◌}
 use Rattle.isa.specs.declared.types.Size.{Size}
-use Rattle.isa.specs.declared.types.Rotation.{Rotation}
 use Rattle.isa.specs.declared.types.Form.{Form}
 use Rattle.isa.specs.declared.types.Add.{Add}
 use Rattle.isa.specs.declared.types.Mul.{Mul}
@@ -14,7 +13,7 @@ use Rattle.isa.specs.declared.types.MulGroup.{MulGroup}
 use Rattle.isa.specs.declared.types.Op.{Op}
 use Rattle.isa.specs.Register.{by_group, group_count}
 use Rattle.isa.specs.Decode.{size_of, rotation_of, add_rotation_of, vector_of}
-use Rattle.isa.specs.Encode.{WriteChecks, write_checks, size_bits, rotation_bits, add_rotation_bits, by_size}
+use Rattle.isa.specs.Encode.{size_bits, rotation_bits, add_rotation_bits, by_size}
 use Rattle.grammar.specs.Template.{Item, byte, var, Choices, numbers, texts, Variables, fill, pick_number, bind}
 
 abbrev pub ascii : String → List ℕ

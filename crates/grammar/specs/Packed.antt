@@ -1,5 +1,5 @@
 -- The alphabet as the code holds it: a text of up to three bytes is one number, the bytes from the lowest on and its length above them.
-use Rattle.std.specs.Prelude.{ℕ, zero, suc, ◌+◌, ◌-◌, ◌*◌, ◌/◌, ◌%◌, ◌^◌, ◌<◌, ◌≡◌, Bool, true, false, ◌||◌, List, [], ◌∷◌, map, eqb, get_or, drop}
+use Rattle.std.specs.Prelude.{ℕ, zero, suc, ◌+◌, ◌-◌, ◌*◌, ◌/◌, ◌%◌, ◌^◌, ◌<◌, ◌≡◌, ◌||◌, List, [], ◌∷◌, map, eqb, get_or}
 use Rattle.grammar.specs.Template.{Choices, numbers, texts, decimal, pick_number}
 use Rattle.grammar.specs.Grammar.{letter_count}
 use Rattle.grammar.specs.Follow.{is_digit, place_of, found, unset}

@@ -1,7 +1,7 @@
 -- Reading by a list of templates: the first that has the text whole, or how far the furthest goes.
 use Rattle.std.specs.Prelude.{ℕ, suc, max, Bool, true, false, List, [], ◌∷◌}
 use Rattle.grammar.specs.Template.{Item, Variables}
-use Rattle.grammar.specs.Follow.{Followed, unset, follow}
+use Rattle.grammar.specs.Follow.{unset, follow}
 
 pub data Search : Type 0 where
   -- the template at this place has the text, with these values

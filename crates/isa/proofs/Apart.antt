@@ -1,12 +1,11 @@
 -- Rows of which no word matches two: some bit is fixed in both and differs (`apart`).
 -- `apart-never`: two such rows match no word. `fixed-bit`: a fixed bit of a word that matches a row is the base's. Assumes nothing.
-use Prim.Native.Nat.{ℕ, zero, suc, ◌+◌, ◌-◌, ◌*◌, ◌/◌, ◌%◌, ◌^◌, ◌<◌, ◌≤◌}
-use mathlib.Core.Path.{◌≡◌, refl, sym, ap, ◌∙◌, subst}
+use Prim.Native.Nat.{ℕ, zero, suc, ◌+◌, ◌-◌, ◌/◌, ◌%◌, ◌^◌, ◌<◌, ◌≤◌}
+use mathlib.Core.Path.{◌≡◌, refl, sym, ap, ◌∙◌}
 use mathlib.Core.List.{List, [], ◌∷◌}
 use mathlib.Core.Bool.{Bool, true, false, not, ◌&&◌, ◌||◌}
 use native.Mathlib.Omega.{arith}
-use native.Mathlib.Nat.{div-one}
-use borrow.Author.Tests.{ltb-true, ltb-false, leb-true, leb-false, eq-eqb, not-true}
+use borrow.Author.Tests.{ltb-true, leb-true, eq-eqb, not-true}
 use lib.Dec.{leb, ltb, eqb}
 use lib.Pow.{field, mod-mod-pow, shr-shr}
 use Rattle.isa.specs.Field.{Field, Row, width}

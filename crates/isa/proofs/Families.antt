@@ -1,7 +1,7 @@
 -- Each family's word and operation, over the base of its row.
 -- `..-back`: the operation that a word of the row is passes every check, and its word is that word.
 -- `..-read`: a word that is written of an operation matches the row, and is that operation. Assumes nothing.
-use Prim.Native.Nat.{ℕ, zero, suc, ◌+◌, ◌*◌, ◌/◌, ◌%◌, ◌^◌, ◌<◌, ◌≤◌}
+use Prim.Native.Nat.{ℕ, zero, suc, ◌+◌, ◌*◌, ◌/◌, ◌%◌, ◌^◌, ◌<◌}
 use mathlib.Core.Path.{◌≡◌, refl, sym, ap, ◌∙◌, subst}
 use mathlib.Core.List.{List, [], ◌∷◌}
 use mathlib.Core.Bool.{Bool, true, false, ◌&&◌}
@@ -23,10 +23,10 @@ use Rattle.isa.specs.declared.types.MulGroup.{MulGroup}
 use Rattle.isa.specs.declared.types.Op.{Op}
 use Rattle.isa.specs.declared.types.Decoded.{Decoded}
 use Rattle.isa.specs.Field.{Field, Row, width, field_value, field_values, row_word}
-use Rattle.isa.specs.Table.{size, rot1, rot2, ZmAdd, ZmMul, Zdn, Zda, Zn, Rn, Rd, Rm, H, L, M, Q, add_row, mul_row, indexed_row, scalar_row, vector_row, element_row_fields, ZmGroup, group_row}
+use Rattle.isa.specs.Table.{size, rot1, rot2, ZmAdd, ZmMul, Zdn, Zda, Zn, Rn, Rd, Rm, H, L, M, add_row, mul_row, indexed_row, scalar_row, vector_row, element_row_fields, ZmGroup, group_row}
 use Rattle.isa.specs.Register.{by_group, group_count}
-use Rattle.isa.specs.Decode.{size_of, rotation_of, add_rotation_of, vector_of, add_of, mul_of, indexed_of, element_with, element_of, element_h, element_s, group_of}
-use Rattle.isa.specs.Encode.{WriteChecks, size_bits, rotation_bits, add_rotation, add_rotation_bits, half_or_single, by_size, add_checks, mul_checks, indexed_checks, form_word, element_fields_of, element_checks, group_checks}
+use Rattle.isa.specs.Decode.{size_of, rotation_of, add_rotation_of, add_of, mul_of, indexed_of, element_of, element_h, element_s, group_of}
+use Rattle.isa.specs.Encode.{size_bits, rotation_bits, add_rotation, add_rotation_bits, half_or_single, by_size, add_checks, mul_checks, indexed_checks, form_word, element_fields_of, element_checks, group_checks}
 use Rattle.isa.proofs.Fields.{sound, Of, Fit, and_left, and_right, fields-written, of-written}
 use Rattle.isa.proofs.Checks.{ChecksPassed}
 

@@ -2,27 +2,24 @@
 -- `decode-exact`; `encode-exact` stands in Checks. Assumes nothing.
 use mathlib.Core.Path.{◌≡◌, refl, sym, ap, ◌∙◌, subst}
 use mathlib.Core.Logic.{◌↔◌}
-use Prim.Native.Nat.{ℕ, ◌+◌, ◌*◌, ◌/◌, ◌<◌, ◌≤◌}
+use Prim.Native.Nat.{ℕ, ◌*◌, ◌<◌, ◌≤◌}
 use native.Mathlib.Omega.{arith}
 use mathlib.Core.Bool.{Bool, true, false}
-use mathlib.Core.List.{List, [], ◌∷◌}
+use mathlib.Core.List.{List}
 use lib.Dec.{ltb, eqb}
-use lib.ListN.{length, get_or, take, drop}
+use lib.ListN.{length, get_or}
 use borrow.Author.Tests.{ltb-true, ltb-false, lt-ltb, le-ltb, eqb-true, eqb-false, eq-eqb, ne_eqb}
 use Rattle.isa.specs.declared.types.Op.{Op}
 use Rattle.isa.specs.declared.types.Decoded.{Decoded}
-use Rattle.isa.specs.declared.types.Written.{Written}
 use Rattle.isa.specs.declared.types.Ending.{Ending}
-use Rattle.isa.specs.Allowed.{AllowedWord, ReservedWord, OutsideWord}
 use Rattle.isa.specs.Decode.{decode_of}
-use Rattle.isa.specs.Encode.{encode_of}
 use Rattle.isa.specs.File.{legal, multiple, check_of, register_check, register_of}
 use Rattle.isa.specs.Run.{State, start, Outcome, run, outcome_of}
 use Rattle.isa.specs.Number.{decoded_number, decoded_operation, written_number, written_word, checked_number, asked_number, ending_number, run_number, run_left}
-use Rattle.isa.specs.Returned.{Runs, Operations, after_words, RunReturns, RunsAs, CheckReturns, ChecksAs, RegisterReturns, AsksAs, WriteReturns, DecodeReturns, DecodesAs}
+use Rattle.isa.specs.Returned.{Runs, Operations, after_words, RunReturns, RunsAs, CheckReturns, ChecksAs, RegisterReturns, AsksAs, DecodeReturns, DecodesAs}
 use Rattle.isa.proofs.File.{legal-multiple, refused-exact, other-exact}
 use Rattle.isa.proofs.Order.{refused-length, refused-power, refused-size, refused-program, run-otherwise}
-use Rattle.isa.proofs.Run.{Stop, Worked, Ends, finished, run_ends, run-exact, run-prefix}
+use Rattle.isa.proofs.Run.{Stop, Worked, Ends, run_ends, run-exact, run-prefix}
 use Rattle.isa.proofs.Checks.{passed, word-exact, encode-exact}
 use Rattle.isa.proofs.Exact.{operation-exact, reserved-exact, outside-exact}
 use Rattle.isa.proofs.RoundTrip.{decode-encode, encode-decode}

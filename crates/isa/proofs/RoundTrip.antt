@@ -2,9 +2,9 @@
 -- `decode-encode`: writing the operation that a word decodes to gives the word.
 -- `encode-decode`: the word that writing an operation gives is a word of 32 bits, and decodes to the operation.
 -- `encode_injective`: two operations that write the same word are the same.
-use Prim.Native.Nat.{ℕ, zero, suc, ◌^◌, ◌<◌, ◌≤◌}
+use Prim.Native.Nat.{ℕ, zero, suc, ◌<◌}
 use mathlib.Core.Path.{◌≡◌, refl, sym, ap, ◌∙◌, subst}
-use mathlib.Core.List.{List, [], ◌∷◌}
+use mathlib.Core.List.{List, ◌∷◌}
 use mathlib.Core.Bool.{true}
 use native.Mathlib.Omega.{arith}
 use lib.ListN.{get_or, drop}

@@ -1,13 +1,13 @@
 -- The table as a whole: each row is sound and no word matches two, both by a test that is computed over the whole table.
 -- `row_read`: a word that matches a row decodes to what its entry reads. `none-outside`: one that has the fixed bits of no row is outside.
 -- Assumes nothing.
-use Prim.Native.Nat.{ℕ, zero, suc, ◌^◌, ◌<◌}
-use mathlib.Core.Path.{◌≡◌, refl, sym, ap, ◌∙◌}
+use Prim.Native.Nat.{ℕ, zero, suc}
+use mathlib.Core.Path.{◌≡◌, refl, ap, ◌∙◌}
 use mathlib.Core.List.{List, [], ◌∷◌, ◌++◌}
 use mathlib.Core.Bool.{Bool, true, false, ◌&&◌}
 use borrow.Author.Tests.{eq-eqb, ne_eqb, eqb-true}
 use Rattle.isa.specs.declared.types.Decoded.{Decoded}
-use Rattle.isa.specs.Field.{Row, matches, row_word, field_values}
+use Rattle.isa.specs.Field.{Row, matches}
 use Rattle.isa.specs.Decode.{Entry, table, pick, first, decode_of}
 use Rattle.isa.proofs.Fields.{sound, Of, Fixed, and_left, and_right, matches-fixed}
 use Rattle.isa.proofs.Apart.{apart, apart-never}

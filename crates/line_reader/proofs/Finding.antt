@@ -13,14 +13,14 @@ use Rattle.line_reader.specs.declared.matcher.Matched.{Matched}
 use Rattle.line_reader.specs.declared.reader.Found.{Found}
 use Rattle.grammar.specs.Template.{Item}
 use Rattle.grammar.specs.Follow.{Followed, unset, follow, Fixed}
-use Rattle.grammar.specs.Search.{Search, read, unread, pick_search, blank, search}
+use Rattle.grammar.specs.Search.{read, unread, pick_search, blank, search}
 use Rattle.grammar.specs.Grammar.{variables, templates, pattern_count, letter_count}
 use Rattle.line_reader.specs.Steps.{values_in, followed_of, search_of, Tried, Reached}
 use Rattle.grammar.specs.declared.types.LineRead.{LineRead}
 use Rattle.grammar.specs.Read.{make_at, read_as, read_of}
 use Rattle.grammar.proofs.Guess.{differ}
 use Rattle.grammar.proofs.Follow.{fixed-stop}
-use Rattle.grammar.proofs.Search.{search-hit, search-miss, search-from, Found as FoundAt, found-is}
+use Rattle.grammar.proofs.Search.{search-hit, search-miss, search-from, found-is}
 use Rattle.grammar.proofs.Alphabet.{most, readable}
 use Rattle.grammar.proofs.Lines.{read-by-pattern}
 

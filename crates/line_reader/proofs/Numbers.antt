@@ -1,7 +1,6 @@
 -- The last arm of a match on a number.
-use Prim.Native.Nat.{ℕ, zero, suc, ◌≤◌, ◌<◌}
+use Prim.Native.Nat.{ℕ, zero, suc}
 use mathlib.Core.Path.{◌≡◌, refl}
-use native.Mathlib.Omega.{arith}
 use Rattle.isa.specs.declared.types.Form.{Form}
 use Rattle.isa.specs.Decode.{vector_of}
 

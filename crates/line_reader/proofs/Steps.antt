@@ -1,18 +1,16 @@
 -- The code's steps are those of the definition of reading. Assumes nothing.
 use Prim.Native.Nat.{ℕ, zero, suc, ◌+◌, ◌-◌, ◌≤◌, ◌<◌}
 use mathlib.Core.Path.{◌≡◌, refl, sym, ap, ◌∙◌, subst, fun_ext}
-use mathlib.Core.Bool.{Bool, true, false, not}
-use mathlib.Core.List.{List, [], ◌∷◌, ◌++◌, map}
-use mathlib.Core.Logic.{◌⊎◌, inl, inr}
+use mathlib.Core.Bool.{Bool, true, false}
+use mathlib.Core.List.{List, [], ◌∷◌, map}
+use mathlib.Core.Logic.{◌⊎◌, inl}
 use native.Mathlib.Omega.{arith}
-use native.Mathlib.Nat.{add_assoc}
 use native.Mathlib.Decide.{ℕ_discrete}
-use borrow.Author.Tests.{eq-eqb, ne_eqb, eqb-true, eqb-false, le-leb, lt-leb}
+use borrow.Author.Tests.{eq-eqb, ne_eqb, eqb-true, eqb-false}
 use lib.Dec.{eqb}
 use lib.ListN.{length, get_or, set, drop, replicate, length-set, length-drop, drop_of_length-le}
-use lib.Seq.{drop-cons, drop-drop, drop-length, get_or-set_same, get_or-set_other}
-use Rattle.line_reader.specs.declared.matcher.Matched.{Matched}
-use Rattle.grammar.specs.Template.{Item, byte, var, count, text_of, bind}
+use lib.Seq.{drop-cons, drop-drop, get_or-set_same, get_or-set_other}
+use Rattle.grammar.specs.Template.{Item, byte, var, text_of, bind}
 use Rattle.grammar.specs.Follow.{Followed, unset, common_prefix, further, stuck, value_of, follow}
 use Rattle.grammar.specs.Search.{blank}
 use Rattle.grammar.specs.Grammar.{alphabet, unused, letter_count, slot_of, variables, item_of}

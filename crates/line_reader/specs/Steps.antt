@@ -1,12 +1,12 @@
 -- What one byte of a template makes of the values and the place: the code's steps, as the definition of reading takes them.
-use Rattle.std.specs.Prelude.{ℕ, ◌+◌, ◌-◌, ◌≤◌, ◌<◌, max, ◌≡◌, Bool, true, false, List, [], ◌∷◌, map, ◌⊎◌, length, get_or, drop}
+use Rattle.std.specs.Prelude.{ℕ, ◌-◌, ◌≤◌, ◌<◌, max, ◌≡◌, Bool, true, false, List, [], ◌∷◌, ◌⊎◌, length, get_or, drop}
 use Rattle.line_reader.specs.declared.matcher.Step.{Step}
 use Rattle.line_reader.specs.declared.matcher.Matched.{Matched}
 use Rattle.grammar.specs.Template.{Item, count}
 use Rattle.grammar.specs.Follow.{Followed, unset, further, stuck, follow}
 use Rattle.line_reader.specs.declared.reader.Found.{Found}
 use Rattle.grammar.specs.Search.{Search, read, unread, pick_search, blank}
-use Rattle.grammar.specs.Grammar.{alphabet, unused, letter_count, pattern_count, variables, templates, item_of}
+use Rattle.grammar.specs.Grammar.{alphabet, unused, letter_count, pattern_count, variables, templates}
 
 -- the values that an array holds
 abbrev pub values_in : List ℕ → ℕ → ℕ

@@ -1,11 +1,11 @@
 -- Writing a line: the values of an operation in an array, a template filled, and a text copied. Assumes nothing.
-use Prim.Native.Nat.{ℕ, zero, suc, ◌+◌, ◌-◌, ◌/◌, ◌%◌, ◌≤◌, ◌<◌}
+use Prim.Native.Nat.{ℕ, zero, suc, ◌+◌, ◌/◌, ◌%◌, ◌≤◌, ◌<◌}
 use mathlib.Core.Path.{◌≡◌, refl, sym, ap, ◌∙◌, subst, fun_ext}
 use mathlib.Core.List.{List, [], ◌∷◌, ◌++◌, map, append_assoc, append-nil}
 use native.Mathlib.Omega.{arith}
 use native.Mathlib.Decide.{ℕ_discrete}
 use borrow.Author.Tests.{eq-eqb, ne_eqb}
-use lib.ListN.{length, get_or, set, take, drop, replicate, length-set, length-append, length-take, drop_of_length-le}
+use lib.ListN.{length, get_or, set, take, drop, replicate, length-set, length-append, drop_of_length-le}
 use lib.Seq.{drop-cons, take-suc, take-set-le, get_or-set_same, get_or-set_other, length-take-le, set-append_seam, take_all}
 use Rattle.isa.specs.declared.types.Size.{Size}
 use Rattle.isa.specs.declared.types.MulIndexed.{MulIndexed}
@@ -14,7 +14,7 @@ use Rattle.isa.specs.declared.types.Group.{Group}
 use Rattle.isa.specs.declared.types.MulGroup.{MulGroup}
 use Rattle.isa.specs.Register.{by_group, group_count}
 use Rattle.isa.specs.Encode.{by_size}
-use Rattle.grammar.specs.Template.{Item, byte, var, text_of, fill, bind}
+use Rattle.grammar.specs.Template.{Item, byte, var, fill, bind}
 use Rattle.grammar.specs.Grammar.{variables, item_of, letter_count, line_max, letter_a, letter_e, letter_h, letter_i, letter_j, letter_k, letter_l, letter_m, letter_p, letter_q, no_values, indexed_values, element_values}
 use Rattle.grammar.specs.Packed.{unpack, text_bytes}
 use Rattle.grammar.proofs.Packed.{text-length}

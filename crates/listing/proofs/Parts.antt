@@ -2,8 +2,8 @@
 use mathlib.Core.Path.{◌≡◌, refl, sym, ap, ◌∙◌, subst}
 use mathlib.Core.Logic.{◌↔◌}
 use mathlib.Core.Bool.{Bool, true, false}
-use mathlib.Core.List.{List, [], ◌∷◌, ◌++◌}
-use Prim.Native.Nat.{ℕ, ◌+◌, ◌*◌, ◌-◌, ◌/◌, ◌%◌, ◌≤◌, ◌<◌}
+use mathlib.Core.List.{List, ◌++◌}
+use Prim.Native.Nat.{ℕ, ◌+◌, ◌*◌, ◌-◌, ◌/◌, ◌≤◌, ◌<◌}
 use native.Mathlib.Decide.{dec_le}
 use native.Mathlib.Nat.{zero-add}
 use native.Mathlib.Omega.{arith}
@@ -12,7 +12,7 @@ use lib.Dec.{leb, ltb}
 use lib.ListN.{length, take, drop, length-append, take-append-drop}
 use lib.Seq.{take_all}
 use Rattle.isa.specs.Bytes.{words_of}
-use Rattle.listing.specs.Listing.{PieceText, ascii, lines_of, tail_of, tail_line, total_line, count_line, limit_line, limit, over_of, last_of, more_of, part_of}
+use Rattle.listing.specs.Listing.{PieceText, ascii, lines_of, tail_of, tail_line, total_line, limit_line, limit, over_of, last_of, more_of, part_of}
 use Rattle.listing.specs.Call.{Wrote, PartOutcome, room_for, text_outcome, outcome_of_part, ListReturns, ListsAs}
 use Rattle.isa.specs.Number.{listed_number, listed_part}
 use Rattle.isa.specs.declared.types.ListedPart.{ListedPart}

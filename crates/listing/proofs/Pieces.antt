@@ -1,18 +1,17 @@
 -- A run over pieces writes the listing of their bytes, wherever the input is cut.
-use mathlib.Core.Path.{◌≡◌, refl, sym, ap, ◌∙◌, subst}
+use mathlib.Core.Path.{◌≡◌, refl, sym, ap, ◌∙◌}
 use mathlib.Core.Bool.{Bool, true, false}
 use mathlib.Core.List.{List, [], ◌∷◌, ◌++◌, append_assoc, append-nil}
-use Prim.Native.Nat.{ℕ, ◌+◌, ◌*◌, ◌-◌, ◌/◌, ◌%◌, ◌≤◌, ◌<◌}
+use Prim.Native.Nat.{ℕ, ◌+◌, ◌-◌, ◌%◌, ◌≤◌, ◌<◌}
 use native.Mathlib.Decide.{dec_le}
-use native.Mathlib.Nat.{zero-add, add_assoc}
+use native.Mathlib.Nat.{zero-add}
 use native.Mathlib.Omega.{arith}
 use borrow.Author.Tests.{lt-ltb, le-ltb}
-use lib.Dec.{ltb}
 use lib.ListN.{length, take, length-append}
 use lib.Seq.{take-append-le, take-append-add}
 use Rattle.isa.specs.Bytes.{words_of}
 use Rattle.listing.specs.Listing.{PieceText, lines_of, tail_of, tail_line, total_line, limit_line, limit, over_of, last_of, more_of, part_of, listing_of, run_of, Whole, joined}
-use Rattle.isa.proofs.Bytes.{words-length, words_append}
+use Rattle.isa.proofs.Bytes.{words_append}
 use Rattle.listing.proofs.Lines.{lines-append}
 
 -- what is printed from the words done before on

@@ -1,11 +1,9 @@
 -- The part that is handed out for a register. `cut-refused`: nothing, on a refusal. `cut-found`: from the register's start to its end. Assumes nothing.
-use mathlib.Core.Path.{◌≡◌, refl, sym, ap, subst, ◌∙◌}
-use Prim.Native.Nat.{ℕ, ◌+◌, ◌-◌, ◌*◌, ◌/◌}
+use mathlib.Core.Path.{◌≡◌, sym, subst}
+use Prim.Native.Nat.{ℕ, ◌+◌, ◌*◌, ◌/◌}
 use native.Mathlib.Omega.{arith}
-use mathlib.Core.List.{List}
-use lib.ListN.{length, take, drop}
 use Rattle.isa.specs.declared.types.Asked.{Asked}
-use Rattle.isa.specs.File.{register_check, register_of}
+use Rattle.isa.specs.File.{register_check}
 use Rattle.isa.proofs.FileChecks.{register-ends, register-given, register-refused}
 use Rattle.regfile.specs.Place.{Cut}
 

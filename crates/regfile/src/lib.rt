@@ -1,5 +1,6 @@
 // The lent register file: which lengths and sizes pass, where a register stands, one register's part, sixteen bytes at a place.
 #![tactic(auto)]
+
 pub mod check;
 pub mod part;
 pub mod segment;

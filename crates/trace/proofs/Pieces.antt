@@ -3,7 +3,7 @@
 use mathlib.Core.Path.{◌≡◌, refl, sym, ap, ◌∙◌}
 use mathlib.Core.List.{List, [], ◌∷◌, ◌++◌}
 use mathlib.Core.Bool.{Bool, true}
-use Prim.Native.Nat.{ℕ, zero, suc, ◌+◌, ◌*◌, ◌<◌, ◌≤◌}
+use Prim.Native.Nat.{ℕ, ◌+◌, ◌*◌, ◌≤◌}
 use native.Mathlib.Omega.{arith}
 use native.Mathlib.Nat.{add-zero}
 use lib.ListN.{length, take, drop, length-take, length-drop, take-append-drop}
@@ -13,7 +13,7 @@ use denote.Enum.Declared.{tag_of}
 use Rattle.isa.specs.Decode.{decode_of}
 use Rattle.isa.specs.File.{legal, byte_at, file_of}
 use Rattle.isa.specs.Meaning.{step, flag_after}
-use Rattle.isa.specs.Run.{State, start, after, Outcome, ended, next, run, outcome_of}
+use Rattle.isa.specs.Run.{State, start, after, Outcome, next, run, outcome_of}
 use Rattle.isa.specs.declared.types.Op.{Op}
 use Rattle.isa.specs.declared.types.Decoded.{Decoded}
 use Rattle.isa.specs.declared.types.Ending.{Ending}

@@ -13,7 +13,7 @@ use borrow.Author.Tests.{ltb-true, ltb-false, lt-ltb, le-ltb}
 use Rattle.isa.specs.declared.types.Ending.{Ending}
 use Rattle.isa.specs.Number.{ending_number, run_number, run_left}
 use Rattle.isa.specs.Returned.{RunsAs}
-use Rattle.isa.specs.Run.{State, start, Outcome, ended, run, outcome_of}
+use Rattle.isa.specs.Run.{State, start, ended, run}
 use Rattle.isa.proofs.File.{cases, legal-exact}
 use Rattle.isa.proofs.Fields.{and_left, and_right}
 use Rattle.isa.proofs.Order.{run-otherwise}
@@ -21,7 +21,7 @@ use Rattle.isa.proofs.Run.{Stop, Ends, run_ends, run-count}
 use Rattle.isa.proofs.Returned.{call-exact}
 use Rattle.trace.specs.Trace.{cases_of, length_at}
 use Rattle.trace.specs.Verdict.{Body, is_flag, flag_of, flags, compared, verdict_on, verdict_of, case_of, accepted_of, judge_of}
-use Rattle.trace.specs.Number.{verdict_kind, verdict_place, accepted_number, accepted_cases, judged_number, judged_kind, judged_place}
+use Rattle.trace.specs.Number.{verdict_kind, verdict_place, judged_number, judged_kind, judged_place}
 use Rattle.trace.specs.Returned.{ContentsAllowed, TotalAllowed, AcceptReturns, AcceptsAs, FlagsAllowed, BodyRuns, RunEnds, NotRefused, run_of, CaseReturns, body_at, JudgeReturns, JudgesAs}
 use Rattle.trace.specs.declared.types.Verdict.{Verdict}
 use Rattle.trace.proofs.Contents.{and_both, refused, contents-exact, total-exact}

@@ -2,7 +2,6 @@
 use Rattle.std.specs.Prelude.{◌≡◌, ℕ, zero, suc, ◌+◌, ◌*◌, ◌-◌, ◌/◌, ◌%◌, ◌<◌, ◌≤◌, List, [], ◌∷◌, ◌++◌, Bool, true, false, ◌&&◌, not, leb, ltb, eqb, length}
 use Rattle.trace.specs.Trace.{cases_of, contents_size, begins, total_of, number_allowed, contents_allowed}
 use Rattle.trace.specs.Verdict.{case_of}
-use Rattle.trace.specs.declared.types.Verdict.{Verdict}
 use Rattle.trace.specs.declared.types.Told.{Told}
 use Rattle.trace.specs.declared.types.End.{End}
 

@@ -1,5 +1,5 @@
 -- A recorder's trace, all in little-endian numbers of four bytes (`word_at`): a table of contents, what is allowed in it, and the bodies. Request A9.
-use Rattle.std.specs.Prelude.{ℕ, zero, suc, ◌+◌, ◌*◌, ◌/◌, ◌%◌, List, Bool, true, false, ◌&&◌, leb, eqb, length, take, drop}
+use Rattle.std.specs.Prelude.{ℕ, zero, suc, ◌+◌, ◌*◌, ◌/◌, ◌%◌, List, Bool, true, ◌&&◌, leb, eqb, length, take, drop}
 use Rattle.isa.specs.Bytes.{word_at}
 use Rattle.isa.specs.File.{legal}
 

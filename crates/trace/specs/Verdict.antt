@@ -1,5 +1,5 @@
 -- What is said of a case, over the run of document 01 (`outcome_of`), and of a trace. Request A9.
-use Rattle.std.specs.Prelude.{ℕ, zero, suc, ◌+◌, ◌*◌, List, [], ◌∷◌, Bool, true, false, ◌&&◌, ltb, eqb, take, drop}
+use Rattle.std.specs.Prelude.{ℕ, suc, ◌+◌, ◌*◌, List, [], ◌∷◌, Bool, true, false, ◌&&◌, ltb, eqb, take, drop}
 use Rattle.std.specs.Bool.{beq}
 use Rattle.isa.specs.Bytes.{word_at, words_of}
 use Rattle.isa.specs.Run.{Outcome, outcome_of}

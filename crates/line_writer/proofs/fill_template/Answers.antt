@@ -1,4 +1,3 @@
-use Prim.Native.Nat.{◌-◌}
 use mathlib.Core.Path.{refl}
 use Rattle.line_writer.proofs.Filling.{filling-starts, filling-on, filling-low, filling-ends}
 use Rattle.line_writer.proofs.fill_template.Goals as goal

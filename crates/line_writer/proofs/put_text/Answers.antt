@@ -1,4 +1,3 @@
-use Prim.Native.Nat.{◌-◌}
 use Rattle.line_writer.proofs.Filling.{copying-starts, copying-on, copying-ends}
 use Rattle.line_writer.proofs.put_text.Goals as goal
 

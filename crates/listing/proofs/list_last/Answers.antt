@@ -12,18 +12,18 @@ put_tail-total-requires c = let bytes = c.args.bytes.now in
 
 pub put_count-requires : goal.put_count-requires
 put_count-requires c = let bytes = c.args.bytes.now in (
-      c.requires.bytes_bound,
-      omega (
-        arith,
-        c.requires.bytes_in_bounds,
-        lines_fit bytes (length bytes / 4),
-        tail-short (tail_of bytes) (omega arith),
-        c.put_lines-tail.ensures.past,
-        c.put_lines-tail.auto,
-        c.put_tail-total.ensures.past,
-        c.put_tail-total.auto,
-      ),
-    )
+  c.requires.bytes_bound,
+  omega (
+    arith,
+    c.requires.bytes_in_bounds,
+    lines_fit bytes (length bytes / 4),
+    tail-short (tail_of bytes) (omega arith),
+    c.put_lines-tail.ensures.past,
+    c.put_lines-tail.auto,
+    c.put_tail-total.ensures.past,
+    c.put_tail-total.auto,
+  ),
+)
 
 pub returns : goal.returns
 returns c = last-outcome c.args.done c.args.bytes.now c.requires.bytes_in_bounds c.requires.bytes_bound

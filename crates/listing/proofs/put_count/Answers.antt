@@ -7,14 +7,14 @@ put_decimal-end-requires c = omega (arith, decimal-short c.args.n c.requires.0, 
 
 pub put_text-requires : goal.put_text-requires
 put_text-requires c = omega (
-      arith,
-      decimal-short c.args.n c.requires.0,
-      c.requires.1,
-      c.put_text-number.ensures.past,
-      c.put_text-number.auto,
-      c.put_decimal-end.ensures.past,
-      c.put_decimal-end.auto,
-    )
+  arith,
+  decimal-short c.args.n c.requires.0,
+  c.requires.1,
+  c.put_text-number.ensures.past,
+  c.put_text-number.auto,
+  c.put_decimal-end.ensures.past,
+  c.put_decimal-end.auto,
+)
 
 pub returns : goal.returns
 returns c = count-wrote c.args.n c.requires.0 c.requires.1 c.put_text-number.ensures c.put_decimal-end.ensures c.put_text.ensures

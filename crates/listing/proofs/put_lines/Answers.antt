@@ -1,4 +1,3 @@
-use Prim.Native.Nat.{◌-◌}
 use Rattle.listing.proofs.Lines.{putting-starts, putting-on, putting-ends}
 use Rattle.listing.proofs.put_lines.Goals as goal
 

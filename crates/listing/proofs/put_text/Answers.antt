@@ -1,4 +1,3 @@
-use Prim.Native.Nat.{◌-◌}
 use Rattle.listing.proofs.WithText.{copying-starts, copying-on, copying-ends}
 use Rattle.listing.proofs.put_text.Goals as goal
 

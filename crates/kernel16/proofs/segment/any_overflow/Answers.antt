@@ -1,5 +1,4 @@
 use mathlib.Core.Path.{ap, ◌∙◌}
-use Prim.Native.Nat.{◌-◌}
 use native.Mathlib.Omega.{arith}
 use mir.Syntax.{w32}
 use Rattle.integer.specs.Number.{clamps}
@@ -17,8 +16,8 @@ loop-e-preserved c = let l = c.loop-e in
     let s = c.args.s in
     let found = c.overflows.ensures ∙ ap (clamps 16) (kept w32 (lane s l.e) c.overflows-arg-1.given) in
     elim c.if-overflows.branch [
-      then-overflows w ↦ told-hit l.invariant (omega arith) found w.if-overflows.true w.any-is
-    | else-overflows w ↦ told-miss l.invariant (omega arith) found w.if-overflows.false w.any-is
+      | then-overflows w ↦ told-hit l.invariant (omega arith) found w.if-overflows.true w.any-is
+      | else-overflows w ↦ told-miss l.invariant (omega arith) found w.if-overflows.false w.any-is
     ]
 
 pub returns : goal.returns

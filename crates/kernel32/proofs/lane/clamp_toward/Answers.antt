@@ -10,8 +10,8 @@ overflow_cast-result c = clamp-toward-fits w32 c.ranges.x c.overflows.ensures c.
 pub returns-then-overflows : goal.returns-then-overflows
 returns-then-overflows c = let test = c.overflows.ensures in
     elim c.if-toward-lt0.branch [
-      then-toward-lt0 w ↦ clamp-toward-low w32 c.ranges.x test c.ranges.toward c.requires c.if-overflows.true w.if-toward-lt0.true w.end-is
-    | else-toward-lt0 w ↦ clamp-toward-high w32 c.ranges.x test c.ranges.toward c.requires c.if-overflows.true w.if-toward-lt0.false w.end-is
+      | then-toward-lt0 w ↦ clamp-toward-low w32 c.ranges.x test c.ranges.toward c.requires c.if-overflows.true w.if-toward-lt0.true w.end-is
+      | else-toward-lt0 w ↦ clamp-toward-high w32 c.ranges.x test c.ranges.toward c.requires c.if-overflows.true w.if-toward-lt0.false w.end-is
     ]
 
 pub returns-else-overflows : goal.returns-else-overflows

@@ -1,11 +1,10 @@
 use mathlib.Core.Path.{refl}
-use Prim.Native.Nat.{◌-◌}
 use native.Mathlib.Omega.{arith}
 use mir.Syntax.{w32}
 use Rattle.integer.specs.Lane.{wrapped}
 use Rattle.integer.proofs.Read.{read-sum}
 use Rattle.isa.specs.Register.{pairs}
-use Rattle.isa.specs.Stage.{lane, minus_at}
+use Rattle.isa.specs.Stage.{lane}
 use Rattle.isa.proofs.Made.{made_none, made_more, made_all}
 use Rattle.kernel32.proofs.segment.adds.Goals as goal
 

@@ -1,5 +1,4 @@
 use mathlib.Core.Path.{refl, ◌∙◌}
-use Prim.Native.Nat.{◌-◌}
 use native.Mathlib.Omega.{arith}
 use mir.Syntax.{w32}
 use Rattle.isa.specs.Register.{pairs}
@@ -22,8 +21,8 @@ loop-e-preserved c = let a = c.args in
     let l = c.loop-e in
     made_more l.invariant (omega arith) _
     (elim c.if-odd.branch [
-      then-odd w ↦ taken-read w32 a.m _ _ w.r-is w.r-1.given (w.partner.ensures ∙ second-odd l.e w.if-odd.true)
-    | else-odd w ↦ taken-read w32 a.m _ _ w.r-is w.r-else-odd-1.given (second-even l.e w.if-odd.false)
+      | then-odd w ↦ taken-read w32 a.m _ _ w.r-is w.r-1.given (w.partner.ensures ∙ second-odd l.e w.if-odd.true)
+      | else-odd w ↦ taken-read w32 a.m _ _ w.r-is w.r-else-odd-1.given (second-even l.e w.if-odd.false)
     ])
 
 pub returns : goal.returns

@@ -12,7 +12,7 @@ pub returns-then-same-turned : goal.returns-then-same-turned
 unfolding clamped wrapped
 returns-then-same-turned c =
     let sum : c.add-s.result ≡ wrap 64 (c.args.c +ℤ signed_by c.args.minus c.args.b) = simp (to_z-of_z c.ranges.c, to_z-of_z c.ranges.b) at c.add-s.ensures in
-    let end : to_z w64 c.if-c-lt0.end-bits ≡ cond (lt_z (to_z w64 (of_z w64 c.args.c)) (pos 0)) (lowest 64) (highest 64) = 
+    let end : to_z w64 c.if-c-lt0.end-bits ≡ cond (lt_z (to_z w64 (of_z w64 c.args.c)) (pos 0)) (lowest 64) (highest 64) =
     elim c.if-c-lt0.branch [ then-c-lt0 w ↦ rw (w.end-is, w.if-c-lt0.true) | else-c-lt0 w ↦ rw (w.end-is, w.if-c-lt0.false) ] in
     let t = simp (sum) at (simp (to_z-of_z c.ranges.c, to_z-of_z c.ranges.b, kept w64 c.add-s.result c.add-s.type_inv) at c.if-same-turned.true) in
     end ∙ simp (to_z-of_z c.ranges.c) (sum-turned 64 (lit< tt) c.args.c c.args.b c.args.minus c.ranges.c.sfits c.ranges.b.sfits t)

@@ -1,4 +1,4 @@
-use Rattle.std.proofs.Common.{◌≡◌, ◌+◌, ◌-◌, ◌*◌, ◌%◌, refl, arith, w64}
+use Rattle.std.proofs.Common.{◌≡◌, ◌+◌, ◌*◌, ◌%◌, refl, arith, w64}
 use Rattle.integer.specs.Number.{pattern}
 use Rattle.integer.proofs.Word.{kept}
 use Rattle.isa.specs.Register.{bits, bytes}

@@ -1,4 +1,4 @@
-use Rattle.std.proofs.Common.{◌-◌, refl, arith, w64}
+use Rattle.std.proofs.Common.{refl, arith, w64}
 use Rattle.isa.specs.Register.{pairs}
 use Rattle.isa.proofs.Made.{made_none, made_more, made_all}
 use Rattle.isa.proofs.Places.{taken-read, first-odd, first-even}
@@ -13,8 +13,8 @@ loop-e-preserved c = let a = c.args in
     let l = c.loop-e in
     made_more l.invariant (omega arith) _
     (elim c.if-odd.branch [
-      then-odd w ↦ taken-read w64 a.n _ _ w.r-is w.r-1.given (first-odd l.e w.if-odd.true)
-    | else-odd w ↦ taken-read w64 a.n _ _ w.r-is w.r-else-odd-1.given (first-even l.e w.if-odd.false)
+      | then-odd w ↦ taken-read w64 a.n _ _ w.r-is w.r-1.given (first-odd l.e w.if-odd.true)
+      | else-odd w ↦ taken-read w64 a.n _ _ w.r-is w.r-else-odd-1.given (first-even l.e w.if-odd.false)
     ])
 
 pub returns : goal.returns

@@ -1,4 +1,4 @@
-use Rattle.std.proofs.Common.{◌-◌, refl, arith, w64}
+use Rattle.std.proofs.Common.{refl, arith, w64}
 use Rattle.integer.specs.Lane.{doubled_high}
 use Rattle.integer.proofs.Read.{read-two}
 use Rattle.isa.specs.Register.{pairs}

@@ -1,8 +1,8 @@
-use Rattle.std.proofs.Common.{◌-◌, refl, arith, w64}
+use Rattle.std.proofs.Common.{refl, arith, w64}
 use Rattle.integer.specs.Lane.{clamped}
 use Rattle.integer.proofs.Read.{read-sum}
 use Rattle.isa.specs.Register.{pairs}
-use Rattle.isa.specs.Stage.{lane, minus_at}
+use Rattle.isa.specs.Stage.{lane}
 use Rattle.isa.proofs.Made.{made_none, made_more, made_all}
 use Rattle.kernel64.proofs.segment.sats.Goals as goal
 

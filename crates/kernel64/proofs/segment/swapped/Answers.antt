@@ -1,4 +1,4 @@
-use Rattle.std.proofs.Common.{◌-◌, refl, ◌∙◌, arith, w64}
+use Rattle.std.proofs.Common.{refl, ◌∙◌, arith, w64}
 use Rattle.isa.specs.Register.{pairs}
 use Rattle.isa.proofs.Made.{made_none, made_more, made_all}
 use Rattle.isa.proofs.Places.{taken-read, second-odd, second-even}
@@ -19,8 +19,8 @@ loop-e-preserved c = let a = c.args in
     let l = c.loop-e in
     made_more l.invariant (omega arith) _
     (elim c.if-odd.branch [
-      then-odd w ↦ taken-read w64 a.m _ _ w.r-is w.r-1.given (w.partner.ensures ∙ second-odd l.e w.if-odd.true)
-    | else-odd w ↦ taken-read w64 a.m _ _ w.r-is w.r-else-odd-1.given (second-even l.e w.if-odd.false)
+      | then-odd w ↦ taken-read w64 a.m _ _ w.r-is w.r-1.given (w.partner.ensures ∙ second-odd l.e w.if-odd.true)
+      | else-odd w ↦ taken-read w64 a.m _ _ w.r-is w.r-else-odd-1.given (second-even l.e w.if-odd.false)
     ])
 
 pub returns : goal.returns

@@ -19,8 +19,8 @@ loop-e-preserved c =
     let l = c.loop-e in
     made_more l.invariant (omega arith) _
     (elim c.if-odd.branch [
-      then-odd w ↦ taken-read w8 m _ _ w.r-is w.r-1.given (w.partner.ensures ∙ second-odd l.e w.if-odd.true)
-    | else-odd w ↦ taken-read w8 m _ _ w.r-is w.r-else-odd-1.given (second-even l.e w.if-odd.false)
+      | then-odd w ↦ taken-read w8 m _ _ w.r-is w.r-1.given (w.partner.ensures ∙ second-odd l.e w.if-odd.true)
+      | else-odd w ↦ taken-read w8 m _ _ w.r-is w.r-else-odd-1.given (second-even l.e w.if-odd.false)
     ])
 
 pub returns : goal.returns

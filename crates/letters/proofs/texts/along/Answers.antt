@@ -1,5 +1,4 @@
 use mathlib.Core.Path.{sym, ◌∙◌}
-use Prim.Native.Nat.{◌-◌}
 use Rattle.grammar.proofs.Packed.{going-starts, going-past, going-off, going_on, going-ends}
 use Rattle.letters.proofs.texts.along.Goals as goal
 

@@ -1,5 +1,4 @@
 use mathlib.Core.Path.{sym, ◌∙◌}
-use Prim.Native.Nat.{◌-◌}
 use native.Mathlib.Omega.{arith}
 use Rattle.grammar.proofs.Packed.{text-stands, looking-starts, looking-on, looking-found, looking-ends}
 use Rattle.letters.proofs.texts.starting_with.Goals as goal

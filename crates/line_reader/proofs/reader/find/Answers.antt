@@ -1,4 +1,3 @@
-use Prim.Native.Nat.{◌-◌}
 use mathlib.Core.Path.{refl}
 use lib.ListN.{replicate}
 use Rattle.line_reader.proofs.Finding.{finding-starts, finding-found, finding-on, finding-ends}

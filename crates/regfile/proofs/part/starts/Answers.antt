@@ -1,6 +1,5 @@
 use mathlib.Core.Path.{refl}
 use native.Mathlib.Omega.{arith}
-use Prim.Native.Nat.{◌-◌}
 use Rattle.isa.proofs.Made.{made_none, made_more, made_all}
 use Rattle.regfile.proofs.Place.{next_start}
 use Rattle.regfile.proofs.part.starts.Goals as goal

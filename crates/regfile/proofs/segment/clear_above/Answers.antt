@@ -1,5 +1,5 @@
 use native.Mathlib.Omega.{arith}
-use Prim.Native.Nat.{◌+◌, ◌-◌, ◌≤◌}
+use Prim.Native.Nat.{◌+◌, ◌≤◌}
 use lib.ListN.{length}
 use Rattle.isa.proofs.Made.{all_same}
 use Rattle.regfile.proofs.Sweep.{clear-starts, clear_room, clear-on, clear-ends}

@@ -1,6 +1,5 @@
 use mathlib.Core.Path.{◌≡◌, refl, subst}
 use native.Mathlib.Omega.{arith}
-use Prim.Native.Nat.{◌-◌}
 use lib.ListN.{length-set}
 use Rattle.regfile.specs.Bytes.{Loaded}
 use Rattle.regfile.proofs.Bytes.{load-none, load-more}

@@ -1,6 +1,5 @@
 use mathlib.Core.Path.{◌≡◌, subst}
 use native.Mathlib.Omega.{arith}
-use Prim.Native.Nat.{◌-◌}
 use Rattle.regfile.specs.Bytes.{Stored}
 use Rattle.regfile.proofs.Bytes.{store-none, store-more}
 use Rattle.regfile.proofs.segment.write16.Goals as goal
