@@ -23,14 +23,14 @@ const MESSAGE: usize = 256;
 const PIECES: usize = 1099511627776;
 
 // The place past the words, with those of one more line; or the line is wrong, and that is told.
-#[derive(Drop)]
+#[derive(Clone, Copy)]
 enum Step {
     More(usize),
     Wrong,
 }
 
 // How far the lines of a piece are assembled: the place of the next, how many there were in the text, the place past the words, and whether none is wrong.
-#[derive(Drop)]
+#[derive(Clone, Copy)]
 struct Course {
     at: usize,
     lines: u64,
@@ -39,7 +39,7 @@ struct Course {
 }
 
 // What is kept from piece to piece: the bytes of a line that has not ended, the lines before it, and whether the text goes on.
-#[derive(Drop)]
+#[derive(Clone, Copy)]
 struct Reading {
     kept: usize,
     lines: u64,

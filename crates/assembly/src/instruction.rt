@@ -4,7 +4,7 @@ use isa::types::{Op, Written};
 use text::digit_value;
 
 // Its word; or none, and the length of the longest beginning that some instruction has.
-#[derive(Drop)]
+#[derive(Clone, Copy)]
 pub enum Instruction {
     Word(u32),
     Not(usize),
@@ -23,7 +23,7 @@ fn along(s: &[u8]) -> usize {
     i
 }
 
-#[derive(Drop)]
+#[derive(Clone, Copy)]
 struct Digits {
     word: u32,
     count: usize,

@@ -1,5 +1,6 @@
 // One line of an assembly text: the word of its instruction, or what is wrong with it. docs/asm.md has the format.
 #![tactic(auto)]
+
 mod fault;
 mod instruction;
 mod place;
@@ -9,7 +10,7 @@ use crate::place::content;
 pub use fault::put_fault;
 
 // What a line comes to. `put_fault` tells what is wrong.
-#[derive(Drop)]
+#[derive(Clone, Copy)]
 pub enum Assembled {
     Nothing,
     Word(u32),

@@ -27,20 +27,20 @@ pub struct Request {
 }
 
 // What one line comes to.
-#[derive(Drop)]
+#[derive(Clone, Copy)]
 enum Said {
     Fine(Request),
     Wrong(Fault),
 }
 
 // What the text comes to: a wrong line has its number, and the place where it starts.
-#[derive(Drop)]
+#[derive(Clone, Copy)]
 pub enum Parsed {
     Taken(Request),
     Wrong(Fault, u64, usize),
 }
 
-#[derive(Drop)]
+#[derive(Clone, Copy)]
 enum Kind {
     Length,
     Qc,

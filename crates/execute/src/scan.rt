@@ -75,13 +75,13 @@ pub fn spells(s: &[u8], at: usize, word: &[u8]) -> bool {
 // ---- numbers
 
 // A value with the place of the word after it.
-#[derive(Drop)]
+#[derive(Clone, Copy)]
 pub enum Number {
     Value(usize, usize),
     Wrong(Fault),
 }
 
-#[derive(Drop)]
+#[derive(Clone, Copy)]
 struct Digits {
     value: usize,
     end: usize,

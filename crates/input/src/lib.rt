@@ -6,7 +6,7 @@ ghost use Rattle.input.specs.Filled.{ReadInto};
 use std::io::Read;
 
 // How many bytes were read, and whether a read failed after them.
-#[derive(Drop)]
+#[derive(Clone, Copy)]
 pub struct Filled {
     pub length: usize,
     pub failed: bool,

@@ -18,7 +18,7 @@ const ROOM: usize = 344096;
 // The words up to the limit fill 64 pieces. One more piece shows whether a whole word follows.
 const PIECES: usize = 65;
 
-#[derive(Drop)]
+#[derive(Clone, Copy)]
 enum Step {
     More(usize),
     Over,

@@ -53,7 +53,7 @@ fn print_judged(stdout: Stdout, judged: Judged) -> io::Result<()> {
 // ---- streams
 
 // The bytes taken, whether there is more to hand in, and the stream.
-#[derive(Drop)]
+#[derive(Clone, Copy)]
 struct Course {
     at: usize,
     live: bool,

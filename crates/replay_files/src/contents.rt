@@ -12,7 +12,7 @@ pub struct Case {
 }
 
 // What is wrong with a trace.
-#[derive(Drop)]
+#[derive(Clone, Copy)]
 pub enum Found {
     NoCount,
     Count(u32),

@@ -37,7 +37,7 @@ pub struct Course {
 }
 
 // All of a state but its arrays.
-#[derive(Drop)]
+#[derive(Clone, Copy)]
 pub struct Marks {
     pub phase: Phase,
     // How many there are, and the one whose body comes; 0 before it is known.
@@ -49,7 +49,7 @@ pub struct Marks {
 }
 
 // The file of the case at hand, the entries of the contents, and zeros behind both.
-#[derive(Drop)]
+#[derive(Clone, Copy)]
 pub struct State {
     pub image: [u8; 8192],
     pub contents: [u8; 12288],
@@ -57,7 +57,7 @@ pub struct State {
 }
 
 // What some bytes bring: how many are taken, what is told, and the marks behind them.
-#[derive(Drop)]
+#[derive(Clone, Copy)]
 pub struct Stepped {
     pub taken: usize,
     pub told: Told,
@@ -65,7 +65,7 @@ pub struct Stepped {
 }
 
 // What a call with some bytes took and tells, and the state behind it.
-#[derive(Drop)]
+#[derive(Clone, Copy)]
 pub struct Fed {
     pub taken: usize,
     pub told: Told,
@@ -73,7 +73,7 @@ pub struct Fed {
 }
 
 // What a call at the end tells, and the state behind it.
-#[derive(Drop)]
+#[derive(Clone, Copy)]
 pub struct Closed {
     pub end: End,
     pub state: State,
