@@ -280,7 +280,7 @@ def archive():
     kit = Path(subprocess.run(["rt", "doc"], stdout=subprocess.PIPE, text=True, check=True).stdout.strip()).parent
     listed = uses()
     parts = [crate for crate in listed if re.fullmatch(r"capi\w*", crate)]
-    with ThreadPoolExecutor(2) as pool:
+    with ThreadPoolExecutor(4) as pool:
         functions = list(pool.map(lambda crate: built_as_library(crate, listed, kit), parts))
     return Libraries(
         dict(zip(parts, functions)), lambda name: read_mir(rlib_of(name) if name in listed else kit / f"rlibs/{name}.rlib")
