@@ -11,6 +11,7 @@ use crate::contents::{Found, body_size, end_place, entry_place, first_fault, lis
 use crate::output::{Streams, agreeing, write_counts, write_line, write_progress, write_unread};
 use crate::refusal::put_refusal;
 use input::Filled;
+use std::io::Stdin;
 use stream::State;
 use stream::number::end_number;
 use stream::state::Phase;
@@ -90,11 +91,11 @@ fn part_size(state: State) -> usize {
 }
 
 // Bytes for the part at hand: of those that were read before, else what the input has by now.
-fn fetch(first: &[u8], place: usize, lacking: &mut [u8], mut streams: Streams) -> Filled
+fn fetch(first: &[u8], place: usize, lacking: &mut [u8], mut stdin: Stdin) -> Filled
     ensures { ReadInto result.length lacking.old lacking.new }
 {
     if first.len() <= place {
-        return input::read_some(&mut streams.stdin, lacking);
+        return input::read_some(&mut stdin, lacking);
     }
     Filled {
         length: copy(lacking, &first[place..]),
@@ -237,7 +238,7 @@ fn go_on(
         // Not reached: no part is longer than the buffer, and behind its end stands the next.
         return over(reading);
     }
-    let filled = fetch(first, reading.place, &mut held[at..end], streams);
+    let filled = fetch(first, reading.place, &mut held[at..end], streams.stdin);
     let n = filled.length;
     if filled.failed {
         write_unread(narrow(state.marks.case), reading.agree, streams);
