@@ -505,6 +505,10 @@ def builds_once(tree):
     os.utime(tree.root / "crates/codec/src/lib.rt", (later, later))
     tree.run("staticlib")
     check(tree.calls() == library, "a change of the code did not build again")
+    os.utime(tree.root / "crates/codec/src/lib.rt", (0, 0))
+    os.utime(tree.root / "crates/exec/src/lib.rt", (later, later))
+    tree.lists()
+    check(not tree.calls(), "a change of a crate that the listing does not stand on built it again")
 
 
 def fails_to_build(tree):
