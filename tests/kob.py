@@ -742,7 +742,7 @@ def makes_a_tar(tree):
         check(part in note, "the note has no", part, note)
     crates = re.findall(r"^([a-z]\w*).*:", (ROOT / "crates.txt").read_text(), re.M)
     for crate in crates:
-        assumed = r", assuming libc::read, libc::write(, \w+(::\w+)+)*" if crate in PROGRAMS else ""
+        assumed = ", assuming libc::read, libc::write, os::c::rattle_errno" if crate in PROGRAMS else ""
         counted = re.search(rf"^{crate} \d+{assumed}$", note, re.M)
         check(bool(counted) != crate.endswith("cases"), "the note counts", crate, "wrongly")
     installed(tree, prefix, version)

@@ -4,7 +4,7 @@
 
 use assembly::{Assembled, put_fault};
 use std::io::{Stderr, Stdin, Stdout};
-use text::{next_line, put_byte, put_number, put_text, put_word, write_start};
+use text::{next_line, print_start, put_byte, put_number, put_text, put_word};
 
 // The option comes on a descriptor of its own. Only the kit's `io` reads one by its number.
 const OPTION_FILENO: i32 = 3;
@@ -57,7 +57,7 @@ fn tell_fault(line: &[u8], number: u64, stderr: Stderr) {
     let numbered = put_number(&mut out, 0, b"kob asm: line ", number);
     let told = put_fault(&mut out, numbered, line, 0);
     let n = put_byte(&mut out, told, b'\n');
-    write_start(&stderr, &out, n);
+    print_start(&stderr, &out, n);
 }
 
 fn tell_length(number: u64, stderr: Stderr) {
@@ -65,7 +65,7 @@ fn tell_length(number: u64, stderr: Stderr) {
     let numbered = put_number(&mut out, 0, b"kob asm: line ", number);
     let told = put_number(&mut out, numbered, b": longer than ", MOST_LINE as u64);
     let n = put_text(&mut out, told, b" bytes\n");
-    write_start(&stderr, &out, n);
+    print_start(&stderr, &out, n);
 }
 
 // ---- lines
@@ -199,7 +199,7 @@ fn take_held(
     if !course.live {
         return course;
     }
-    if !write_start(&stdout, out, course.words) {
+    if !print_start(&stdout, out, course.words) {
         let _ = stderr.write_all(b"kob asm: the output could not be written\n");
         course.live = false;
     }

@@ -7,7 +7,7 @@ use codec::word_at;
 use grammar::types::LineWritten;
 use isa::types::{Decoded, Op};
 use std::io::{Stderr, Stdin, Stdout};
-use text::{put_byte, put_number, put_text, put_word, write_start};
+use text::{print_start, put_byte, put_number, put_text, put_word};
 
 // Bytes of one piece: a multiple of 4.
 const PIECE: usize = 32768;
@@ -84,12 +84,12 @@ fn tell_left_over(n: usize, stderr: Stderr) {
         n as u64,
     );
     let end = put_byte(&mut out, told, b'\n');
-    write_start(&stderr, &out, end);
+    print_start(&stderr, &out, end);
 }
 
 fn write_lines(bytes: &[u8], out: &mut [u8], stdout: Stdout, stderr: Stderr) -> bool {
     let n = put_lines(out, bytes);
-    if write_start(&stdout, out, n) {
+    if print_start(&stdout, out, n) {
         return true;
     }
     let _ = stderr.write_all(b"kob disasm: the output could not be written\n");

@@ -4,14 +4,14 @@ ghost use Rattle.std.specs.Prelude.{◌≡◌, ◌||◌, ◌+◌, ◌<◌};
 use isa::types::{Ending, Ran};
 
 // The flag QC and the words done.
-#[derive(Drop)]
+#[derive(Clone, Copy)]
 pub struct Carried {
     pub qc: bool,
     pub done: usize,
 }
 
 // What one word's step answers: what to go on with, or what the run that ends there answers.
-#[derive(Drop)]
+#[derive(Clone, Copy)]
 pub enum Stepped {
     Next(Carried),
     Stopped(Ran),

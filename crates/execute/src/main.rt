@@ -16,7 +16,7 @@ use crate::part::part_mut;
 use crate::report::put_report;
 use isa::types::Ran;
 use std::io::{Stderr, Stdout};
-use text::write_start;
+use text::print_start;
 
 // The longest text.
 const MOST_TEXT: usize = 65536;
@@ -59,7 +59,7 @@ fn tell(
 ) {
     let mut out = [0u8; OUT];
     let n = put_report(&mut out, request, ran, before, after, words);
-    if !write_start(&stdout, &out, n) {
+    if !print_start(&stdout, &out, n) {
         let _ = stderr.write_all(b"kob run: the output could not be written\n");
     }
 }
@@ -67,7 +67,7 @@ fn tell(
 fn refuse(fault: Fault, line: u64, text: &[u8], stderr: Stderr) {
     let mut out = [0u8; MESSAGE];
     let n = put_fault(&mut out, fault, line, text);
-    write_start(&stderr, &out, n);
+    print_start(&stderr, &out, n);
 }
 
 fn execute(text: &[u8], stdout: Stdout, stderr: Stderr) {

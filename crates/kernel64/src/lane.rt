@@ -8,7 +8,7 @@ use crate::product::{product, wide_product};
 use common::bits64::{of_bits, to_bits};
 
 // A number as twice high plus low, which is 0 or 1.
-#[derive(Drop)]
+#[derive(Clone, Copy)]
 pub struct Halves {
     pub high: i64,
     pub low: u64,

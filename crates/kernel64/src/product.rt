@@ -6,14 +6,14 @@ ghost use Rattle.kernel64.specs.Wide.{wide_of};
 use common::multiply::half_product;
 
 // A number of 128 bits: hi times 2^64, plus lo.
-#[derive(Drop)]
+#[derive(Clone, Copy)]
 pub struct Wide {
     pub hi: u64,
     pub lo: u64,
 }
 
 // The same, signed.
-#[derive(Drop)]
+#[derive(Clone, Copy)]
 pub struct SignedWide {
     pub hi: i64,
     pub lo: u64,

@@ -9,7 +9,7 @@ pub const PATTERNS: usize = 18;
 const TEMPLATE_MAX: usize = 42;
 
 // So many bytes; the rest is filled up. The mark is the place of a byte of the mnemonic that tells it from the others.
-#[derive(Drop)]
+#[derive(Clone, Copy)]
 pub struct Template {
     pub bytes: [u8; TEMPLATE_MAX],
     pub size: usize,

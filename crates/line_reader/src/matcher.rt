@@ -9,14 +9,14 @@ ghost use Rattle.line_reader.specs.Steps.{Held, taken, Steps, followed_of};
 use letters::texts::{LETTERS, UNSET, along, length_of, row_of, slot_of, text_in, value_at};
 
 // Whether to go on, and the place.
-#[derive(Drop)]
+#[derive(Clone, Copy)]
 pub struct Step {
     pub on: bool,
     pub at: usize,
 }
 
 // Whether the text is the template's whole, how far it follows it, and the values.
-#[derive(Drop)]
+#[derive(Clone, Copy)]
 pub struct Matched {
     pub whole: bool,
     pub reach: usize,

@@ -23,7 +23,7 @@ fn vector_of(v: u32) -> Form
 }
 
 // The pattern that has a text, with its values; or none, and how far the furthest goes.
-#[derive(Drop)]
+#[derive(Clone, Copy)]
 pub struct Found {
     pub whole: bool,
     pub pattern: usize,

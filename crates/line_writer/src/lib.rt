@@ -213,7 +213,7 @@ fn values_of(op: Op) -> [u8; LETTERS]
 // ---- a template with values for its letters
 
 // A text at an array's start: so many bytes.
-#[derive(Drop)]
+#[derive(Clone, Copy)]
 pub struct Text {
     pub bytes: [u8; ROOM],
     pub size: usize,

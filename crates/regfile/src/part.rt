@@ -7,7 +7,7 @@ use crate::check::check_register;
 use isa::types::Asked;
 
 // A part of a file, by its start and its end.
-#[derive(Drop)]
+#[derive(Clone, Copy)]
 struct Span {
     start: usize,
     end: usize,

@@ -14,7 +14,7 @@ use trace::types::{Accepted, Judged, Verdict};
 const LONGEST_TRACE: usize = 65536;
 
 // Where the bodies end whose entries are read so far, or contents that are refused.
-#[derive(Drop)]
+#[derive(Clone, Copy)]
 pub enum Extent {
     Ends(usize),
     Refused,

@@ -5,14 +5,14 @@ ghost use Rattle.replay.specs.Read.{number_at};
 use codec::word_at;
 
 // A number of a trace, or too few bytes for it.
-#[derive(Drop)]
+#[derive(Clone, Copy)]
 pub enum Read {
     Number(u32),
     Short,
 }
 
 // Document 01's form for a lent trace: the slice and a place in it.
-#[derive(Drop)]
+#[derive(Clone, Copy)]
 pub struct Reader<'a> {
     pub trace: &'a [u8],
     pub at: usize,

@@ -2,7 +2,7 @@
 ghost use Rattle.std.specs.Prelude.{◌≤◌};
 
 use std::io::{Stderr, Stdin, Stdout};
-use text::{put_byte, put_number, start_of, write_start};
+use text::{print_start, put_byte, put_number, write_start};
 use trace::types::Verdict;
 
 // Room for three numbers.
@@ -24,7 +24,7 @@ const PROGRESS_FILENO: i32 = 6;
 
 // Whether the line was written; if not, it says so.
 pub fn write_line(line: &[u8], n: usize, streams: Streams) -> bool {
-    if write_start(&streams.stdout, line, n) {
+    if print_start(&streams.stdout, line, n) {
         return true;
     }
     let _ = streams
@@ -35,7 +35,7 @@ pub fn write_line(line: &[u8], n: usize, streams: Streams) -> bool {
 
 // A line on how far a trace has come. It may be lost.
 pub fn write_progress(line: &[u8], n: usize) {
-    io::write_all(PROGRESS_FILENO, start_of(line, n));
+    write_start(PROGRESS_FILENO, line, n);
 }
 
 // One line: how many cases were judged, how many agree, and 1 for a trace that was refused.
@@ -45,7 +45,7 @@ pub fn write_counts(cases: u32, agree: u32, refused: u32) {
     let agreed = put_number(&mut out, judged, b" ", agree as u64);
     let counted = put_number(&mut out, agreed, b" ", refused as u64);
     let n = put_byte(&mut out, counted, b'\n');
-    io::write_all(COUNTS_FILENO, start_of(&out, n));
+    write_start(COUNTS_FILENO, &out, n);
 }
 
 // The input failed after so many cases, whose lines stand.

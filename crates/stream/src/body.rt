@@ -10,7 +10,7 @@ use codec::word_at;
 use replay::body::load;
 
 // How many bytes were taken, and how far the body has come.
-#[derive(Drop)]
+#[derive(Clone, Copy)]
 pub struct Moved {
     pub taken: usize,
     pub course: Course,

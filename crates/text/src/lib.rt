@@ -92,6 +92,11 @@ pub fn start_of(out: &[u8], n: usize) -> &[u8] {
 }
 
 // Writes the first n bytes, or all where there are fewer. Whether they were written.
-pub fn write_start<P: Print>(to: &P, out: &[u8], n: usize) -> bool {
+pub fn print_start<P: Print>(to: &P, out: &[u8], n: usize) -> bool {
     to.write_all(start_of(out, n)).is_ok()
+}
+
+// The same to a descriptor by its number.
+pub fn write_start(fd: i32, out: &[u8], n: usize) -> bool {
+    io::write_all(fd, start_of(out, n))
 }

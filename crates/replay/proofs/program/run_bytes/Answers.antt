@@ -44,10 +44,10 @@ loop-done-smaller c = omega (arith, c.taken-n.ensures.0, c.loop-done-test.true)
 
 pub loop-done-preserved : goal.loop-done-preserved
 loop-done-preserved c = let a = c.args in (
-      program-on a.l a.file.now a.qc a.bytes.now c.requires.held c.requires.bytes_len_bound c.loop-done.file c.loop-done.flag c.loop-done.done c.loop-done.invariant.0
-          c.taken-n.result c.words_at-words.result c.taken-n.ensures.2 (omega (arith, c.taken-n.ensures.1, c.loop-done-test.true)) _ (omega (arith, c.loop-done.invariant.1, c.requires.bytes_len_bound)) c.words_at-words.ensures c.run-ran.result _ c.run-ran.ensures c.in-Done.is,
-      omega (arith, c.taken-n.ensures.1),
-    )
+  program-on a.l a.file.now a.qc a.bytes.now c.requires.held c.requires.bytes_len_bound c.loop-done.file c.loop-done.flag c.loop-done.done c.loop-done.invariant.0
+      c.taken-n.result c.words_at-words.result c.taken-n.ensures.2 (omega (arith, c.taken-n.ensures.1, c.loop-done-test.true)) _ (omega (arith, c.loop-done.invariant.1, c.requires.bytes_len_bound)) c.words_at-words.ensures c.run-ran.result _ c.run-ran.ensures c.in-Done.is,
+  omega (arith, c.taken-n.ensures.1),
+)
 
 pub shape_of-file : goal.shape_of-file
 shape_of-file c = c.loop-done.invariant.0.sized ∙ sym c.requires.held.sized

@@ -18,20 +18,20 @@ case_bytes-requires c = let good = allowed-true _ _ _ (sym c.is_allowed.ensures 
 
 pub returns-then-is_allowed : goal.returns-then-is_allowed
 returns-then-is_allowed c = let r = c.case_bytes.ensures in (
-      r.0,
-      r.1,
-      rows-case c.args.held.now c.args.m c.args.bytes.now _ c.if-m-case.false _ _ _ (row-place _ c.if-case-lt1024.true)
-          (c.wide-l.ensures ∙ c.word_at.ensures)
-          (c.wide-w.ensures ∙ c.word_at-then-case-lt1024.ensures) _ (c.case_bytes.auto.image ∙ image-part c.args.held.now c.requires.0) r.2,
-    )
+  r.0,
+  r.1,
+  rows-case c.args.held.now c.args.m c.args.bytes.now _ c.if-m-case.false _ _ _ (row-place _ c.if-case-lt1024.true)
+      (c.wide-l.ensures ∙ c.word_at.ensures)
+      (c.wide-w.ensures ∙ c.word_at-then-case-lt1024.ensures) _ (c.case_bytes.auto.image ∙ image-part c.args.held.now c.requires.0) r.2,
+)
 
 pub returns : goal.returns
 returns c = let one = one-taken c.args.bytes.now _ _ c.requires.1 c.refuse-2.ensures in (
-      one.0,
-      one.1,
-      elim c.if-case-lt1024.branch [
-        then-case-lt1024+else-is_allowed w ↦ rows-allowed c.args.held.now c.args.m c.args.bytes.now _ c.if-m-case.false _ _ _ (row-place _ w.if-case-lt1024.true)
-          (w.wide-l.ensures ∙ w.word_at.ensures) (w.wide-w.ensures ∙ w.word_at-then-case-lt1024.ensures) (sym w.if-is_allowed.false ∙ w.is_allowed.ensures)
-      | else-case-lt1024 w ↦ rows_few c.args.held.now c.args.m c.args.bytes.now _ c.if-m-case.false w.if-case-lt1024.false
-      ],
-    )
+  one.0,
+  one.1,
+  elim c.if-case-lt1024.branch [
+    | then-case-lt1024+else-is_allowed w ↦ rows-allowed c.args.held.now c.args.m c.args.bytes.now _ c.if-m-case.false _ _ _ (row-place _ w.if-case-lt1024.true)
+        (w.wide-l.ensures ∙ w.word_at.ensures) (w.wide-w.ensures ∙ w.word_at-then-case-lt1024.ensures) (sym w.if-is_allowed.false ∙ w.is_allowed.ensures)
+    | else-case-lt1024 w ↦ rows_few c.args.held.now c.args.m c.args.bytes.now _ c.if-m-case.false w.if-case-lt1024.false
+  ],
+)

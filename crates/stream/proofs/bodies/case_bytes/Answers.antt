@@ -17,16 +17,16 @@ slice_bounds-clear-end-then-course-body_size c = sym (length-take-le _ _ (slice_
 
 pub returns-then-course-body_size : goal.returns-then-course-body_size
 returns-then-course-body_size c = let moved = c.body_bytes-moved.ensures in (
-      moved.some,
-      moved.most,
-      case-whole c.args.l c.args.w _ c.args.m _ _ _ _ moved c.body_size.result c.body_size.ensures _ c.if-course-body_size.true _
-          (file-size c.args.l c.requires.allowed.0.ok) _ c.clear.ensures _ c.fresh.ensures c.bodies.ensures,
-    )
+  moved.some,
+  moved.most,
+  case-whole c.args.l c.args.w _ c.args.m _ _ _ _ moved c.body_size.result c.body_size.ensures _ c.if-course-body_size.true _
+      (file-size c.args.l c.requires.allowed.0.ok) _ c.clear.ensures _ c.fresh.ensures c.bodies.ensures,
+)
 
 pub returns : goal.returns
 returns c = let moved = c.body_bytes-moved.ensures in (
-      moved.some,
-      moved.most,
-      case-on c.args.l c.args.w _ c.args.m _ _ _ _ moved c.body_size.result c.body_size.ensures _ c.if-course-body_size.false
-          c.bodies-2.ensures,
-    )
+  moved.some,
+  moved.most,
+  case-on c.args.l c.args.w _ c.args.m _ _ _ _ moved c.body_size.result c.body_size.ensures _ c.if-course-body_size.false
+      c.bodies-2.ensures,
+)
