@@ -5,26 +5,18 @@ ghost use Rattle.integer.specs.Number.{signed, pattern};
 pub fn of_bits(u: u16) -> i16
     ensures { result ≡ signed 16 u }
 {
-    if u < 32768 {
-        u as i16
-    } else {
-        -1 - ((65535 - u) as i16)
-    }
+    u.cast_signed()
 }
 
 pub fn to_bits(x: i16) -> u16
     ensures { result ≡ pattern 16 x }
 {
-    if x < 0 {
-        65535 - ((-1 - x) as u16)
-    } else {
-        x as u16
-    }
+    x.cast_unsigned()
 }
 
 // The number in two bytes.
 pub fn word(lo: u8, hi: u8) -> u16
     ensures { result ≡ lo + 256 * hi }
 {
-    (lo as u16) + ((hi as u16) << 8)
+    u16::from_le_bytes([lo, hi])
 }

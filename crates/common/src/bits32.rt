@@ -7,28 +7,20 @@ ghost use Rattle.isa.specs.Stage.{WordsOf};
 pub fn of_bits(u: u32) -> i32
     ensures { result ≡ signed 32 u }
 {
-    if u < 2147483648 {
-        u as i32
-    } else {
-        -1 - ((4294967295 - u) as i32)
-    }
+    u.cast_signed()
 }
 
 pub fn to_bits(x: i32) -> u32
     ensures { result ≡ pattern 32 x }
 {
-    if x < 0 {
-        4294967295 - ((-1 - x) as u32)
-    } else {
-        x as u32
-    }
+    x.cast_unsigned()
 }
 
 // The number in four bytes.
 pub fn word(a: u8, b: u8, c: u8, d: u8) -> u32
     ensures { result ≡ a + 256 * (b + 256 * (c + 256 * d)) }
 {
-    (a as u32) + ((b as u32) << 8) + ((c as u32) << 16) + ((d as u32) << 24)
+    u32::from_le_bytes([a, b, c, d])
 }
 
 // The four words of sixteen bytes, the first byte of each the lowest.

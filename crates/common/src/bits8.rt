@@ -5,19 +5,11 @@ ghost use Rattle.integer.specs.Number.{signed, pattern};
 pub fn of_bits(u: u8) -> i8
     ensures { result ≡ signed 8 u }
 {
-    if u < 128 {
-        u as i8
-    } else {
-        -1 - ((255 - u) as i8)
-    }
+    u.cast_signed()
 }
 
 pub fn to_bits(x: i8) -> u8
     ensures { result ≡ pattern 8 x }
 {
-    if x < 0 {
-        255 - ((-1 - x) as u8)
-    } else {
-        x as u8
-    }
+    x.cast_unsigned()
 }

@@ -8,34 +8,19 @@ use isa::types::Rotation;
 pub fn crosses(rot: Rotation) -> bool
     ensures { result ≡ crossed rot }
 {
-    match rot {
-        Rotation::R0 => false,
-        Rotation::R90 => true,
-        Rotation::R180 => false,
-        Rotation::R270 => true,
-    }
+    matches!(rot, Rotation::R90 | Rotation::R270)
 }
 
 pub fn minus_real(rot: Rotation) -> bool
     ensures { result ≡ minus_real rot }
 {
-    match rot {
-        Rotation::R0 => false,
-        Rotation::R90 => true,
-        Rotation::R180 => true,
-        Rotation::R270 => false,
-    }
+    matches!(rot, Rotation::R90 | Rotation::R180)
 }
 
 pub fn minus_imaginary(rot: Rotation) -> bool
     ensures { result ≡ minus_imaginary rot }
 {
-    match rot {
-        Rotation::R0 => false,
-        Rotation::R90 => false,
-        Rotation::R180 => true,
-        Rotation::R270 => true,
-    }
+    matches!(rot, Rotation::R180 | Rotation::R270)
 }
 
 // The other lane of a pair.

@@ -1,17 +1,18 @@
--- A signed number of a machine width and its bits: the steps of reading one from the other fit, and give `signed` and `pattern`.
+-- A signed number of a machine width and its bits: what is read of the one is `signed` and `pattern` of the other.
 -- Assumes nothing.
-use mathlib.Core.Path.{◌≡◌, refl, sym, ap, ◌∙◌, subst}
-use mathlib.Core.Bool.{true, false}
-use Prim.Native.Nat.{ℕ, ◌-◌, ◌*◌, ◌^◌, ◌≤◌, ◌<◌}
+use mathlib.Core.Path.{◌≡◌, refl, ap, ◌∙◌, subst, sym}
+use mathlib.Core.Bool.{Bool, true, false}
+use Prim.Native.Nat.{ℕ, suc, ◌-◌, ◌*◌, ◌^◌, ◌≤◌, ◌<◌}
+use native.Mathlib.Nat.{mod-eq_of_lt}
 use native.Mathlib.Omega.{arith}
-use lib.Dec.{T}
-use lib.IntN.{ℤ, pos, negsuc, nat_abs, ◌-ℤ◌}
-use lib.Signed.{lt_z, non_neg, mag}
+use borrow.Author.Tests.{ltb-true, ltb-false}
+use lib.Dec.{ltb}
+use lib.IntN.{ℤ, pos, negsuc}
 use mir.Syntax.{Width, w8, w16, w32, w64, w128}
-use mir.Val.{bits, hbits, Fits, SFits, to_z, of_z}
-use mir.Facts.{to_z-of_z, to_z_pos}
+use mir.Val.{bits, hbits, SFits, to_z, of_z, sel}
+use mir.Facts.{of_z-to_z, to_z-of_z}
 use Rattle.integer.specs.Number.{signed, pattern}
-use Rattle.integer.proofs.Word.{kept, flipped, not_negative, read-flipped, flip-pos, pattern-negative, pattern-positive, signed_low, signed_high}
+use Rattle.integer.proofs.Word.{signed_low, signed_high}
 
 pub half : (w : Width) → 2 ^ (bits w - 1) ≡ 2 ^ hbits w
 half w8 = refl
@@ -27,48 +28,27 @@ whole w32 = refl
 whole w64 = refl
 whole w128 = refl
 
--- ---- from a number to its bits: -1 - a is what is missing to the highest pattern
+-- from bits to the number
+pub read-signed : (w : Width) (u : ℕ) → u < 2 ^ bits w → to_z w u ≡ signed (bits w) u
+read-signed w u h = by-test (ltb u (2 ^ hbits w)) refl
+  where
+    by-test : (t : Bool) → ltb u (2 ^ hbits w) ≡ t → sel t (pos u) (negsuc (2 ^ bits w - suc u)) ≡ signed (bits w) u
+    by-test true e = signed_low (bits w) u (subst (λ (n : ℕ). u < n) (sym (half w)) (ltb-true u (2 ^ hbits w) e))
+    by-test false e =
+        ap negsuc (omega arith)
+        ∙ signed_high (bits w) u (subst (λ (n : ℕ). n ≤ u) (sym (half w)) (ltb-false u (2 ^ hbits w) e)) h
 
-module _ {w : Width} {a : ℤ} (f : SFits w a) where
-  small : mag a < 2 ^ (bits w - 1)
-  small = subst (λ (n : ℕ). mag a < n) (sym (half w)) f.sfits
+-- the same of the number r that the code reads
+pub read-bits : (w : Width) (u : ℕ) {r : ℤ} → u < 2 ^ bits w → r ≡ to_z w u → to_z w (of_z w r) ≡ signed (bits w) u
+read-bits w u {r} h e =
+    ap (λ (z : ℤ). to_z w (of_z w z)) e ∙ ap (to_z w) (of_z-to_z {w = w} {n = u} (record { fits = h })) ∙ read-signed w u h
 
-  module _ (e : lt_z (to_z w (of_z w a)) (pos 0) ≡ true) where
-    pub fits-flipped : SFits w (negsuc 0 -ℤ to_z w (of_z w a))
-    fits-flipped = simp (to_z-of_z f, flipped a (simp (to_z-of_z f) at e)) (record { sfits = f.sfits })
+-- from a number to its bits
+pub bits-pattern : (w : Width) (a : ℤ) → SFits w a → of_z w a ≡ pattern (bits w) a
+unfolding pattern
+bits-pattern w (pos n) f = sym (mod-eq_of_lt (omega (arith, f.sfits, whole w)))
+bits-pattern w (negsuc n) f = ap (λ (k : ℕ). 2 ^ bits w - suc k) (sym (mod-eq_of_lt (omega (arith, f.sfits, whole w))))
 
-    pub cast-flipped : T (non_neg (to_z w (of_z w (negsuc 0 -ℤ to_z w (of_z w a))))) × Fits w (nat_abs (to_z w (of_z w (negsuc 0 -ℤ to_z w (of_z w a)))))
-    cast-flipped = simp (read-flipped a f e) (tt, record { fits = omega (arith, f.sfits, whole w) })
-
-    pub below-flipped : nat_abs (to_z w (of_z w (negsuc 0 -ℤ to_z w (of_z w a)))) ≤ 2 ^ bits w - 1
-    below-flipped = simp (read-flipped a f e) (omega (arith, f.sfits, whole w))
-
-    pub pattern-flipped : 2 ^ bits w - 1 - nat_abs (to_z w (of_z w (negsuc 0 -ℤ to_z w (of_z w a)))) ≡ pattern (bits w) a
-    pattern-flipped = simp (read-flipped a f e) (pattern-negative (bits w) a small (simp (to_z-of_z f) at e))
-
-  module _ (e : lt_z (to_z w (of_z w a)) (pos 0) ≡ false) where
-    pub cast-kept : T (non_neg (to_z w (of_z w a))) × Fits w (nat_abs (to_z w (of_z w a)))
-    cast-kept =
-        let g = not_negative a (simp (to_z-of_z f) at e) in
-        simp (to_z-of_z f) (g.0, record { fits = omega (arith, f.sfits, g.1, whole w) })
-
-    pub pattern-kept : nat_abs (to_z w (of_z w a)) ≡ pattern (bits w) a
-    pattern-kept = simp (to_z-of_z f) (pattern-positive (bits w) a small (simp (to_z-of_z f) at e))
-
--- ---- from bits to the number
-
-pub low_read : (w : Width) (u : ℕ) → u < 2 ^ hbits w → to_z w u ≡ signed (bits w) u
-low_read w u h = to_z_pos w h ∙ signed_low (bits w) u (subst (λ (n : ℕ). u < n) (sym (half w)) h)
-
-module _ (w : Width) (u : ℕ) (h : 2 ^ hbits w ≤ u) (l : u < 2 ^ bits w) where
-  mirrored : negsuc 0 -ℤ to_z w (2 ^ bits w - 1 - u) ≡ negsuc (2 ^ bits w - 1 - u)
-  mirrored = ap (λ (z : ℤ). negsuc 0 -ℤ z) (to_z_pos w (omega (arith, whole w))) ∙ flip-pos (2 ^ bits w - 1 - u)
-
-  pub high_fits : SFits w (negsuc 0 -ℤ to_z w (2 ^ bits w - 1 - u))
-  high_fits = rw mirrored (record { sfits = omega (arith, whole w) })
-
-  pub high_read : to_z w (of_z w (negsuc 0 -ℤ to_z w (2 ^ bits w - 1 - u))) ≡ signed (bits w) u
-  high_read =
-      rw mirrored
-      (kept w (negsuc (2 ^ bits w - 1 - u)) (omega (arith, whole w))
-      ∙ signed_high (bits w) u (subst (λ (n : ℕ). n ≤ u) (sym (half w)) h) l)
+-- the same of the bits u that the code reads
+pub pattern-bits : (w : Width) (a : ℤ) {u : ℕ} → SFits w a → u ≡ of_z w (to_z w (of_z w a)) → u ≡ pattern (bits w) a
+pattern-bits w a f e = e ∙ ap (of_z w) (to_z-of_z f) ∙ bits-pattern w a f

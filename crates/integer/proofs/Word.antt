@@ -2,16 +2,16 @@
 -- Assumes nothing.
 use mathlib.Core.Path.{◌≡◌, refl, sym, ap, ◌∙◌, subst}
 use mathlib.Core.Bool.{Bool, true, false, cond}
-use Prim.Native.Nat.{ℕ, zero, suc, ◌+◌, ◌-◌, ◌*◌, ◌%◌, ◌^◌, ◌≤◌, ◌<◌}
+use Prim.Native.Nat.{ℕ, suc, ◌+◌, ◌-◌, ◌*◌, ◌%◌, ◌^◌, ◌≤◌, ◌<◌}
 use native.Mathlib.Nat.{mod-eq_of_lt, mod-lt, mul_assoc}
 use native.Mathlib.Omega.{arith}
-use lib.Pow.{pow_pos, pow_mono, pow-add, mod-mod-pow}
+use lib.Pow.{pow_pos, pow-add, mod-mod-pow}
 use borrow.Author.Tests.{ltb-true, le-ltb, lt-ltb}
 use lib.Dec.{ltb, T}
 use lib.IntN.{ℤ, pos, negsuc, nat_abs, ◌+ℤ◌, ◌-ℤ◌}
 use lib.Signed.{lt_z, non_neg, mag}
 use mir.Syntax.{Width}
-use mir.Val.{SFits, to_z, of_z, hbits}
+use mir.Val.{to_z, of_z, hbits}
 use mir.Facts.{to_z-of_z}
 use Rattle.integer.specs.Number.{signed, pattern, mod_z, wrap}
 use Rattle.integer.specs.Lane.{wrapped}
@@ -29,33 +29,6 @@ flipped (negsuc n) e = is_pos (suc n) 1 n (omega arith)
 pub not_negative : (a : ℤ) → lt_z a (pos 0) ≡ false → T (non_neg a) × (nat_abs a ≡ mag a)
 not_negative (pos n) e = (tt, refl)
 not_negative (negsuc n) e = absurd (subst T e tt)
-
--- what is read of -1 - a, and of -1 - v
-pub read-flipped : {w : Width} (a : ℤ) → SFits w a → lt_z (to_z w (of_z w a)) (pos 0) ≡ true → to_z w (of_z w (negsuc 0 -ℤ to_z w (of_z w a))) ≡ pos (mag a)
-read-flipped {w} a f e =
-    let g = simp (to_z-of_z f) at e in
-    simp (to_z-of_z f, flipped a g, to_z-of_z {w = w} {z = pos (mag a)} (record { sfits = f.sfits }))
-
-pub flip-pos : (v : ℕ) → negsuc 0 -ℤ pos v ≡ negsuc v
-flip-pos zero = refl
-flip-pos (suc v) = ap negsuc (omega arith)
-
--- the pattern of a number in range
-whole : (N : ℕ) {n : ℕ} → n < 2 ^ (N - 1) → n < 2 ^ N
-whole N {n} h = omega (arith, pow_mono {i = N - 1} {j = N} (omega arith))
-
-pub pattern-negative : (N : ℕ) (a : ℤ) → mag a < 2 ^ (N - 1) → lt_z a (pos 0) ≡ true → 2 ^ N - 1 - mag a ≡ pattern N a
-unfolding pattern
-pattern-negative N (pos n) h e = absurd (no n (ltb-true n 0 e))
-  where
-    no : (n : ℕ) → n < 0 → ⊥
-    no n h = omega arith
-pattern-negative N (negsuc n) h e = rw (mod-eq_of_lt (whole N h)) (omega arith)
-
-pub pattern-positive : (N : ℕ) (a : ℤ) → mag a < 2 ^ (N - 1) → lt_z a (pos 0) ≡ false → nat_abs a ≡ pattern N a
-unfolding pattern
-pattern-positive N (pos n) h e = sym (mod-eq_of_lt (whole N h))
-pattern-positive N (negsuc n) h e = absurd (subst T e tt)
 
 -- the number of a pattern
 pub signed_low : (N u : ℕ) → u < 2 ^ (N - 1) → pos u ≡ signed N u
