@@ -2,16 +2,17 @@
 use mathlib.Core.Path.{◌≡◌, sym, ap, ◌∙◌}
 use Prim.Native.Nat.{ℕ, ◌≤◌, ◌<◌}
 use mathlib.Core.Bool.{true}
+use Rattle.std.proofs.Common.{Option}
 use mathlib.Core.List.{List, ◌++◌}
 use lib.ListN.{length, drop}
 use borrow.Author.Tests.{lt-ltb, le-ltb}
 use Rattle.listing.specs.Listing.{part_of, listing_of}
 use Rattle.listing.specs.Call.{PartOutcome, outcome_of_part, room_for}
-use Rattle.isa.specs.declared.types.Listed.{Listed}
+use Rattle.isa.specs.declared.types.ListedPart.{ListedPart}
 use Rattle.listing.proofs.Pieces.{part-whole}
 use Rattle.capi.specs.List.{ListAnswer, listed_packed, packed_listing, list_call}
 
-pub list-packed : {r : Listed} {after : List ℕ} {n : ℕ} (bytes out : List ℕ) → record { answer = r; out = after } ≡ outcome_of_part 0 bytes true out → n ≡ listed_packed r
+pub list-packed : {r : Option ListedPart} {after : List ℕ} {n : ℕ} (bytes out : List ℕ) → record { answer = r; out = after } ≡ outcome_of_part 0 bytes true out → n ≡ listed_packed r
     → record { answer = n; out = after } ≡ list_call bytes out
 unfolding list_call
 list-packed {r} {after} {n} bytes out e f = rw f (ap packed_listing e)

@@ -5,28 +5,34 @@ use native.Mathlib.Nat.{mul-le-mul}
 use native.Mathlib.Omega.{arith}
 use mathlib.Core.List.{List, []}
 use lib.ListN.{length, take, drop}
-use Rattle.isa.specs.declared.types.Asked.{Asked}
+use mathlib.Core.Bool.{true, false}
+use Rattle.std.specs.Prelude.{Ok, Err, is_err}
+use Rattle.isa.specs.Check.{Check}
+use Rattle.isa.specs.declared.types.FileRefusal.{FileRefusal}
+use Rattle.isa.specs.declared.types.RegisterRefusal.{RegisterRefusal}
 use Rattle.isa.specs.File.{register_check, register_of, part_if}
 use Rattle.isa.specs.Number.{asked_number}
 use Rattle.isa.proofs.FileChecks.{register-ends}
 use Rattle.capi.specs.Register.{Place, part_packed, packed_asked, register_call, part_at}
 
-refused-number : (k : Asked) (part : ℕ) → (k ≡ Asked.Found → ⊥) → asked_number k ≡ packed_asked k part
-refused-number Asked.Found part ne = absurd (ne refl)
-refused-number Asked.BadLength part ne = refl
-refused-number Asked.NotPowerOfTwo part ne = refl
-refused-number Asked.BadSize part ne = refl
-refused-number Asked.NoRegister part ne = refl
+refused-number : (k : Check RegisterRefusal) (part : ℕ) → is_err k ≡ true → asked_number k ≡ packed_asked k part
+refused-number (Ok found) part e = cc
+refused-number (Err refusal) part e = refl
+
+passed-number : (k : Check RegisterRefusal) (part : ℕ) → is_err k ≡ false → part ≡ packed_asked k part
+unfolding asked_number
+passed-number (Ok found) part e = omega arith
+passed-number (Err refusal) part e = cc
 
 module _ (L size n : ℕ) where
-  pub register-refused : {k : Asked} → k ≡ register_check L size n → (k ≡ Asked.Found → ⊥) → asked_number k ≡ register_call L size n
+  pub register-refused : {k : Check RegisterRefusal} → k ≡ register_check L size n → is_err k ≡ true → asked_number k ≡ register_call L size n
   unfolding register_call
-  register-refused {k} e ne = refused-number k (part_packed (n * (L / 8)) (L / 8)) ne ∙ ap (λ (x : Asked). packed_asked x (part_packed (n * (L / 8)) (L / 8))) e
+  register-refused {k} e bad = refused-number k (part_packed (n * (L / 8)) (L / 8)) bad ∙ ap (λ (x : Check RegisterRefusal). packed_asked x (part_packed (n * (L / 8)) (L / 8))) e
 
-  module _ (e : register_check L size n ≡ Asked.Found) where
+  module _ (e : is_err (register_check L size n) ≡ false) where
     pub register-passed : part_packed (n * (L / 8)) (L / 8) ≡ register_call L size n
-    unfolding register_call asked_number
-    register-passed = rw e (omega arith)
+    unfolding register_call
+    register-passed = passed-number (register_check L size n) _ e
 
     pub register-place : Place (n * (L / 8)) (L / 8)
     register-place =
@@ -48,18 +54,19 @@ unfolding part_packed
 part_length s l p = omega arith
 
 module _ (L : ℕ) (file : List ℕ) (n : ℕ) where
-  cut-checked : (k : Asked) → register_check L (length file) n ≡ k → register_of L file n ≡ part_at file (register_call L (length file) n)
-  unfolding register_of register_call asked_number
-  cut-checked Asked.Found e =
+  cut-found : is_err (register_check L (length file) n) ≡ false → take (L / 8) (drop (n * (L / 8)) file) ≡ part_at file (part_packed (n * (L / 8)) (L / 8))
+  cut-found e =
       let p = register-place L (length file) n e in
-      rw e
-      (ap (λ (l : ℕ). take l (drop (n * (L / 8)) file)) (sym (part_length (n * (L / 8)) (L / 8) p))
+      ap (λ (l : ℕ). take l (drop (n * (L / 8)) file)) (sym (part_length (n * (L / 8)) (L / 8) p))
       ∙ ap (λ (s : ℕ). take (part_packed (n * (L / 8)) (L / 8) / 0x100_0000_0000) (drop s file)) (sym (part-start (n * (L / 8)) (L / 8) p))
-      ∙ ap (part_at file) (zero-plus (part_packed (n * (L / 8)) (L / 8))))
-  cut-checked Asked.BadLength e = rw e
-  cut-checked Asked.NotPowerOfTwo e = rw e
-  cut-checked Asked.BadSize e = rw e
-  cut-checked Asked.NoRegister e = rw e
+
+  cut-checked : (k : Check RegisterRefusal) → register_check L (length file) n ≡ k → register_of L file n ≡ part_at file (register_call L (length file) n)
+  unfolding register_of register_call asked_number
+  cut-checked (Ok found) e = rw e (cut-found (ap is_err e) ∙ ap (part_at file) (zero-plus (part_packed (n * (L / 8)) (L / 8))))
+  cut-checked (Err (RegisterRefusal.File FileRefusal.BadLength)) e = rw e
+  cut-checked (Err (RegisterRefusal.File FileRefusal.NotPowerOfTwo)) e = rw e
+  cut-checked (Err (RegisterRefusal.File FileRefusal.BadSize)) e = rw e
+  cut-checked (Err RegisterRefusal.NoRegister) e = rw e
 
   pub register-cut : register_of L file n ≡ part_at file (register_call L (length file) n)
   register-cut = cut-checked (register_check L (length file) n) refl

@@ -8,7 +8,7 @@ use lib.Dec.{eqb}
 use lib.ListN.{length}
 use Rattle.isa.specs.declared.types.Op.{Op}
 use Rattle.isa.specs.declared.types.Decoded.{Decoded}
-use Rattle.isa.specs.declared.types.Written.{Written}
+use Rattle.std.specs.Prelude.{Ok}
 use Rattle.isa.specs.Decode.{decode_of}
 use Rattle.isa.specs.Encode.{encode_of}
 use Rattle.isa.specs.Number.{decoded_number, written_number, written_word}
@@ -19,7 +19,7 @@ use Rattle.capi.specs.Decode.{decode_answer, pick_decode, decode_call}
 use Rattle.capi.specs.Encode.{written_packed, named_packed, encode_call}
 use Rattle.capi.proofs.Named.{encode-eight}
 
-encode-fields : (op : Op) (w : ℕ) → encode_of op ≡ Written.Word w → encode_call (fields_of op) ≡ w * 0x1_0000_0000
+encode-fields : (op : Op) (w : ℕ) → encode_of op ≡ Ok w → encode_call (fields_of op) ≡ w * 0x1_0000_0000
 unfolding named_packed written_packed written_number written_word
 encode-fields op w e =
     sym (encode-eight (fields_of op) (fields-eight op))

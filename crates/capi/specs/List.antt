@@ -1,12 +1,12 @@
 -- What `kob_list` answers, and what it leaves in the lent buffer.
-use Rattle.std.specs.Prelude.{ℕ, true, List}
+use Rattle.std.specs.Prelude.{ℕ, true, List, Option, Some, None}
 use Rattle.listing.specs.Call.{PartOutcome, outcome_of_part}
-use Rattle.isa.specs.declared.types.Listed.{Listed}
+use Rattle.isa.specs.declared.types.ListedPart.{ListedPart}
 
 -- the length of the text, or all ones where there was no room
-unfoldable pub listed_packed : Listed → ℕ
-listed_packed (Listed.Text p) = p.length
-listed_packed Listed.Room = 0xFFFF_FFFF_FFFF_FFFF
+unfoldable pub listed_packed : Option ListedPart → ℕ
+listed_packed (Some p) = p.length
+listed_packed None = 0xFFFF_FFFF_FFFF_FFFF
 
 pub record ListAnswer : Type 0 where
   pub answer : ℕ

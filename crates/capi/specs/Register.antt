@@ -1,8 +1,9 @@
 -- What `kob_register` answers.
-use Rattle.std.specs.Prelude.{ℕ, ◌+◌, ◌*◌, ◌/◌, ◌%◌, ◌<◌, List, take, drop}
+use Rattle.std.specs.Prelude.{ℕ, ◌+◌, ◌*◌, ◌/◌, ◌%◌, ◌<◌, List, take, drop, Ok, Err}
+use Rattle.isa.specs.Check.{Check}
 use Rattle.isa.specs.File.{register_check}
 use Rattle.isa.specs.Number.{asked_number}
-use Rattle.isa.specs.declared.types.Asked.{Asked}
+use Rattle.isa.specs.declared.types.RegisterRefusal.{RegisterRefusal}
 
 -- the start in bits 16 to 39, the length in bits 40 to 63
 unfoldable pub part_packed : ℕ → ℕ → ℕ
@@ -14,12 +15,9 @@ pub record Place (start length : ℕ) : Type 0 where
   pub length_fits : length < 0x100_0000
 
 -- the number in bits 0 to 7; start and length are 0 on a refusal
-abbrev pub packed_asked : Asked → ℕ → ℕ
-packed_asked Asked.Found part = asked_number Asked.Found + part
-packed_asked Asked.BadLength part = asked_number Asked.BadLength
-packed_asked Asked.NotPowerOfTwo part = asked_number Asked.NotPowerOfTwo
-packed_asked Asked.BadSize part = asked_number Asked.BadSize
-packed_asked Asked.NoRegister part = asked_number Asked.NoRegister
+abbrev pub packed_asked : Check RegisterRefusal → ℕ → ℕ
+packed_asked (Ok found) part = asked_number (Ok found) + part
+packed_asked (Err refusal) part = asked_number (Err refusal)
 
 -- register n has L/8 bytes and stands behind the n registers before it
 unfoldable pub register_call : ℕ → ℕ → ℕ → ℕ

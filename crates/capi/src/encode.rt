@@ -2,30 +2,26 @@
 ghost use Rattle.std.specs.Prelude.{◌≡◌};
 ghost use Rattle.capi.specs.Encode.{written_packed, named_packed, encode_call};
 
-use fields::types::Named;
 use fields::{named_by, read_numbers};
-use isa::types::Written;
+use isa::types::{Op, WriteRefusal};
 
 // The number in the low half, the word in the high half.
-fn packed_written(w: Written) -> u64
-    ensures { result ≡ written_packed w }
+#[tactic(auto, unfolding(crate::specs::Encode::written_packed, isa::specs::Number::written_number, isa::specs::Number::written_word))]
+fn packed_written(written: Result<u32, WriteRefusal>) -> u64
+    ensures { result ≡ written_packed written }
 {
-    match w {
-        Written::Word(word) => (word as u64) << 32,
-        Written::NoSize => 7,
-        Written::NoRotation => 8,
-        Written::RegisterLimit => 9,
-        Written::GroupStart => 14,
-        Written::IndexLimit => 10,
+    match written {
+        Ok(word) => (word as u64) << 32,
+        Err(refusal) => refusal as u64,
     }
 }
 
-fn packed_named(named: Named) -> u64
+fn packed_named(named: Option<Op>) -> u64
     ensures { result ≡ named_packed named }
 {
     match named {
-        Named::Operation(op) => packed_written(codec::encode(op)),
-        Named::Nothing => 33,
+        Some(op) => packed_written(codec::encode(op)),
+        None => 33,
     }
 }
 

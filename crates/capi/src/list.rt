@@ -2,16 +2,16 @@
 ghost use Rattle.std.specs.Prelude.{◌≡◌};
 ghost use Rattle.capi.specs.List.{listed_packed, list_call};
 
-use isa::types::Listed;
+use isa::types::ListedPart;
 use listing::list_part;
 
 // The length of the text, or all ones where there was no room.
-fn packed_listing(listed: Listed) -> u64
+fn packed_listing(listed: Option<ListedPart>) -> u64
     ensures { result ≡ listed_packed listed }
 {
     match listed {
-        Listed::Text(part) => part.length as u64,
-        Listed::Room => 0xFFFF_FFFF_FFFF_FFFF,
+        Some(part) => part.length as u64,
+        None => 0xFFFF_FFFF_FFFF_FFFF,
     }
 }
 

@@ -3,14 +3,14 @@ ghost use Rattle.std.specs.Prelude.{◌≡◌};
 ghost use Rattle.isa.specs.Number.{asked_number};
 ghost use Rattle.capi.specs.Register.{Place, part_packed, register_call};
 
-use isa::types::Asked;
+use isa::types::RegisterRefusal;
 use regfile::check::{asked_number, check_register};
 use regfile::part::offset;
 
-fn number_of(a: Asked) -> u64
-    ensures { result ≡ asked_number a }
+fn number_of(asked: Result<(), RegisterRefusal>) -> u64
+    ensures { result ≡ asked_number asked }
 {
-    asked_number(a) as u64
+    asked_number(asked) as u64
 }
 
 // The start in bits 16 to 39 and the length in bits 40 to 63.
@@ -27,9 +27,9 @@ pub extern "C" fn kob_register(l: usize, size: usize, n: usize) -> u64
     ensures { result ≡ register_call l size n }
 {
     let asked = check_register(l, size, n);
-    let Asked::Found = asked else {
+    if asked.is_err() {
         return number_of(asked);
-    };
+    }
     let length = l >> 3;
     packed_part(offset(length, n), length)
 }

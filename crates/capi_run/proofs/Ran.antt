@@ -10,7 +10,9 @@ use borrow.Author.Tests.{ltb-false}
 use Rattle.isa.specs.File.{check_of}
 use Rattle.isa.specs.Number.{ending_number}
 use Rattle.isa.specs.Run.{Outcome, start, run, ended, pick_outcome, checked_run, outcome_of}
-use Rattle.isa.specs.declared.types.Checked.{Checked}
+use Rattle.std.specs.Prelude.{Ok, Err}
+use Rattle.isa.specs.Check.{Check}
+use Rattle.isa.specs.declared.types.FileRefusal.{FileRefusal}
 use Rattle.isa.specs.declared.types.Ending.{Ending}
 use Rattle.isa.specs.declared.types.Ran.{Ran}
 use Rattle.isa.proofs.Run.{run-count}
@@ -31,11 +33,9 @@ module _ (L : ℕ) (file : List ℕ) (qc : Bool) (words : List ℕ) where
   picked-short true e = omega arith
   picked-short false e = omega (arith, ltb-false 4096 (length words) e, (run-count L words file qc).0)
 
-  checked-short : (k : Checked) → (checked_run k L words (start file qc)).answer.done ≤ 4096
-  checked-short Checked.Passed = picked-short (ltb 4096 (length words)) refl
-  checked-short Checked.BadLength = omega arith
-  checked-short Checked.NotPowerOfTwo = omega arith
-  checked-short Checked.BadSize = omega arith
+  checked-short : (k : Check FileRefusal) → (checked_run k L words (start file qc)).answer.done ≤ 4096
+  checked-short (Ok passed) = picked-short (ltb 4096 (length words)) refl
+  checked-short (Err refusal) = omega arith
 
   pub run_short : (outcome_of L file qc words).answer.done ≤ 4096
   unfolding outcome_of

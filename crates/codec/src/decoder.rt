@@ -10,6 +10,7 @@ use isa::types::{
     Add, ByElement, Decoded, Form, Group, Mul, MulGroup, MulIndexed, Op, Rotation, Size,
 };
 
+// No TryFrom, here and below: these answer for every number, and a call that cannot fail stays so.
 pub fn size_of(n: u32) -> Size
     ensures { result ≡ size_of n }
 {

@@ -1,5 +1,6 @@
--- One operation on the lent file. `found`: its registers by the table of their starts. `swept-executed`: an SVE2 operation.
--- `found-group`, `group-executed`: one on a group. `touched-executed`: one by element. `touched-whole`: its first segment stored and the others cleared. `turns`: the rotations of CADD and SQCADD.
+-- One operation on the lent file. `found_within`: the first segments of its registers. `swept-executed`: an SVE2 operation.
+-- `found-group`, `group-executed`: one on a group. `touched-executed`: one by element. `touched-whole`: its first segment stored and the others cleared.
+-- `add_executed`, `mul_executed`, `indexed_executed`, `element_executed`: by the pairs of families. `turns`: the rotations of CADD and SQCADD.
 -- `by-limit`: an index below its limit, as a loop takes it. `swept_at`, `worked-as`: what was matched. `not-b`, `not-d`: sizes that are not handed over. Assumes nothing.
 use mathlib.Core.Path.{◌≡◌, refl, sym, ap, subst, ◌∙◌}
 use Prim.Native.Nat.{ℕ, ◌+◌, ◌*◌, ◌/◌, ◌%◌, ◌<◌, ◌≤◌}
@@ -13,6 +14,10 @@ use Rattle.isa.specs.declared.types.Size.{Size}
 use Rattle.isa.specs.declared.types.Size.TheVariants.{B, D}
 use Rattle.isa.specs.declared.types.Rotation.{Rotation}
 use Rattle.isa.specs.declared.types.Group.{Group}
+use Rattle.isa.specs.declared.types.Add.{Add}
+use Rattle.isa.specs.declared.types.Mul.{Mul}
+use Rattle.isa.specs.declared.types.MulIndexed.{MulIndexed}
+use Rattle.isa.specs.declared.types.ByElement.{ByElement}
 use Rattle.isa.specs.declared.types.MulGroup.{MulGroup}
 use Rattle.isa.specs.declared.types.Op.{Op}
 use Rattle.integer.specs.Lane.{doubled_high}
@@ -20,28 +25,22 @@ use Rattle.isa.specs.Register.{Bytes, bits, group_count}
 use Rattle.isa.specs.declared.types.Form.{Form}
 use Rattle.isa.specs.Meaning.{writes, written, lane_bytes, lane_clamps, lane_wise, flag_after, advanced_simd}
 use Rattle.isa.specs.File.{byte_at}
-use Rattle.isa.specs.Valid.{Valid, GroupValid}
+use Rattle.isa.specs.Valid.{Valid, AddValid, MulValid, IndexedValid, GroupValid}
 use Rattle.isa.specs.Encode.{add_rotation, half_or_single}
 use Rattle.isa.specs.Stage.{crossed}
-use Rattle.isa.specs.Sources.{Rule, dest_of, first_of, second_of, made, clamps_in}
+use Rattle.isa.specs.Sources.{Rule, add_rule, mul_rule, indexed_rule, dest_of, first_of, second_of, made, clamps_in}
 use Rattle.isa.proofs.File.{legal-exact}
 use Rattle.isa.proofs.Local.{flag-kept}
 use Rattle.isa.proofs.Progress.{register-stored, registers-stored}
 use Rattle.isa.proofs.Sources.{made_of, flag-made, valid-below, or-false}
 use Rattle.regfile.specs.Bytes.{Cleared}
-use Rattle.regfile.specs.Place.{Starts}
+use Rattle.regfile.specs.Place.{Numbers}
 use Rattle.regfile.specs.Sweep.{Held, Placed, Lying, Swept, Within, bytes_from, Touched}
 use Rattle.regfile.specs.Group.{GroupLying, GroupSwept}
 use Rattle.regfile.proofs.Sweep.{touched-as, touched-above}
-use Rattle.exec.specs.Step.{Executed}
+use Rattle.exec.specs.Step.{Executed, add_of, mul_of, indexed_of, element_of}
 
 -- ---- where the registers are
-
--- an operation's registers start at d, n and m, and lie in the file
-pub record RegistersAt (L : ℕ) (f : List ℕ) (op : Op) (d n m : ℕ) : Type 0 where
-  pub placed : Placed (L / 8) op d n m
-  pub lying : Lying L f d n m
-  pub within : Within (length f) d n m
 
 -- a group starts at d, and its second source at m
 pub record GroupFound (L : ℕ) (f : List ℕ) (a : MulGroup) (d m : ℕ) : Type 0 where
@@ -53,54 +52,36 @@ pub group-some : (g : Group) → 0 < group_count g
 group-some Group.Two = omega arith
 group-some Group.Four = omega arith
 
-module _ (L : ℕ) (f : List ℕ) (held : Held L f) (starts : List ℕ) (table : Starts (L / 8) starts) where
-  start : (r i : ℕ) → r < 32 → i ≡ r → get_or starts i 0 ≡ r * (L / 8)
-  start r i h e = ap (λ k. get_or starts k 0) e ∙ table.at r h
-
+module _ (L : ℕ) (f : List ℕ) (held : Held L f) where
   ends : (r at : ℕ) → r < 32 → at ≡ r * (L / 8) → at + L / 8 ≤ 4 * L
   ends r at h e =
       let whole = ((legal-exact L).0 held.ok).whole in
       omega (arith, mul-le-mul_right (L / 8) h, e)
 
-  -- by the table of starts, at three places that are the numbers of its registers
-  pub found : (op : Op) → Valid op → (d n m : ℕ) → d ≡ dest_of op → n ≡ first_of op → m ≡ second_of op →
-      RegistersAt L f op (get_or starts d 0) (get_or starts n 0) (get_or starts m 0)
-  found op valid d n m dest first second =
-      let b = valid-below op valid in
+  -- the first segments of three registers
+  pub found_within : (x y z : ℕ) → Numbers x y z → (d n m : ℕ) → d ≡ x * (L / 8) → n ≡ y * (L / 8) → m ≡ z * (L / 8) → Within (length f) d n m
+  found_within x y z numbers d n m dest first second =
       let k = (legal-exact L).0 held.ok in
-      let at-d = start (dest_of op) d b.dest dest in
-      let at_n = start (first_of op) n b.first first in
-      let at-m = start (second_of op) m b.second second in
-      let end-d = ends (dest_of op) _ b.dest at-d in
-      let end-n = ends (first_of op) _ b.first at_n in
-      let end-m = ends (second_of op) _ b.second at-m in
       record {
-        placed = record { dest = at-d; first = at_n; second = at-m };
-        lying = record { held = held; dest = end-d; first = end-n; second = end-m };
-        within = record {
-          dest = omega (arith, end-d, held.sized);
-          first = omega (arith, end-n, held.sized);
-          second = omega (arith, end-m, held.sized);
-        };
+        dest = omega (arith, ends x d numbers.dest dest, held.sized);
+        first = omega (arith, ends y n numbers.first first, held.sized);
+        second = omega (arith, ends z m numbers.second second, held.sized);
       }
 
   -- the registers of a group, and its second source
-  pub found-group : (a : MulGroup) → GroupValid a → (d m : ℕ) → d ≡ a.zdn → m ≡ a.zm → GroupFound L f a (get_or starts d 0) (get_or starts m 0)
+  pub found-group : (a : MulGroup) → GroupValid a → (d m : ℕ) → d ≡ a.zdn * (L / 8) → m ≡ a.zm * (L / 8) → GroupFound L f a d m
   found-group a valid d m dest second =
       let w = L / 8 in
       let k = (legal-exact L).0 held.ok in
-      let some = group-some a.group in
-      let at-d = start a.zdn d (omega (arith, valid.group, some)) dest in
-      let at-m = start a.zm m valid.zm second in
       record {
-        dest = at-d;
-        second = at-m;
+        dest = dest;
+        second = second;
         lying = record {
           held = held;
-          group = omega (arith, at-d, mul-le-mul_right w valid.group, add-mul a.zdn (group_count a.group) w, k.whole);
-          second = ends a.zm _ valid.zm at-m;
-          group_start = ap (λ x. x % w) at-d ∙ mul-mod_left a.zdn w;
-          second_start = ap (λ x. x % w) at-m ∙ mul-mod_left a.zm w;
+          group = omega (arith, dest, mul-le-mul_right w valid.group, add-mul a.zdn (group_count a.group) w, k.whole);
+          second = ends a.zm m valid.zm second;
+          group_start = ap (λ x. x % w) dest ∙ mul-mod_left a.zdn w;
+          second_start = ap (λ x. x % w) second ∙ mul-mod_left a.zm w;
         };
       }
 
@@ -138,6 +119,53 @@ module _ (L : ℕ) (op : Op) (only : (r : ℕ) → writes op r ≡ eqb r (dest_o
       b : bytes_from f m ≡ byte_at L f (second_of op)
       b = from_start L f (second_of op) m p.second
 
+-- a form by element with the index that the code has: its first segment stored, and the others cleared
+pub touched-whole : (f : Form) (z : Size) (minus : Bool) {index known : ℕ} (L : ℕ) (file : List ℕ) (d n m : ℕ) (mid after : List ℕ) (r : Bool) → Held L file → known ≡ index →
+    Touched 16 (lane_bytes f z known minus) (lane_clamps f z known minus) file d n m mid r → Cleared mid (d + 16) (d + L / 8) after →
+    Touched (L / 8) (lane_bytes f z index minus) (lane_clamps f z index minus) file d n m after r
+touched-whole f z minus {index} L file d n m mid after r held e t cleared =
+    let k = (legal-exact L).0 held.ok in
+    touched-above f z index minus (L / 8) (omega (arith, k.whole, k.least)) (lane_clamps f z index minus) file d n m mid after r
+    (touched-as 16 (λ i. lane_bytes f z i minus) (λ i. lane_clamps f z i minus) file d n m mid r (sym e) t) cleared
+
+-- ---- by the pairs of families
+
+module _ (L : ℕ) (f : List ℕ) (held : Held L f) (d n m : ℕ) where
+  pub add_executed : (s : Bool) (a : Add) → AddValid a → d ≡ a.zdn * (L / 8) → n ≡ a.zdn * (L / 8) → m ≡ a.zm * (L / 8) → (after : List ℕ) →
+      Swept L (add_rule s a.size a.rot) f d n m after → Executed L (add_of s a) f after false
+  unfolding made advanced_simd writes dest_of first_of second_of
+  add_executed false a valid dest first second after w =
+      swept-executed L (Op.Cadd a) valid (λ r. refl) f held d n m (record { dest = dest; first = first; second = second }) refl (add_rule false a.size a.rot) (λ c a b i. refl) after w
+  add_executed true a valid dest first second after w =
+      swept-executed L (Op.Sqcadd a) valid (λ r. refl) f held d n m (record { dest = dest; first = first; second = second }) refl (add_rule true a.size a.rot) (λ c a b i. refl) after w
+
+  pub mul_executed : (s : Bool) (a : Mul) → MulValid a → d ≡ a.zda * (L / 8) → n ≡ a.zn * (L / 8) → m ≡ a.zm * (L / 8) → (after : List ℕ) →
+      Swept L (mul_rule s a.size a.rot) f d n m after → Executed L (mul_of s a) f after false
+  unfolding made advanced_simd writes dest_of first_of second_of
+  mul_executed false a valid dest first second after w =
+      swept-executed L (Op.Cmla a) valid (λ r. refl) f held d n m (record { dest = dest; first = first; second = second }) refl (mul_rule false a.size a.rot) (λ c a b i. refl) after w
+  mul_executed true a valid dest first second after w =
+      swept-executed L (Op.Sqrdcmlah a) valid (λ r. refl) f held d n m (record { dest = dest; first = first; second = second }) refl (mul_rule true a.size a.rot) (λ c a b i. refl) after w
+
+  pub indexed_executed : (s : Bool) (a : MulIndexed) → IndexedValid a → d ≡ a.zda * (L / 8) → n ≡ a.zn * (L / 8) → m ≡ a.zm * (L / 8) → (after : List ℕ) →
+      Swept L (indexed_rule s a.size a.index a.rot) f d n m after → Executed L (indexed_of s a) f after false
+  unfolding made advanced_simd writes dest_of first_of second_of
+  indexed_executed false a valid dest first second after w =
+      swept-executed L (Op.CmlaIndexed a) valid (λ r. refl) f held d n m (record { dest = dest; first = first; second = second }) refl (indexed_rule false a.size a.index a.rot) (λ c a b i. refl) after w
+  indexed_executed true a valid dest first second after w =
+      swept-executed L (Op.SqrdcmlahIndexed a) valid (λ r. refl) f held d n m (record { dest = dest; first = first; second = second }) refl (indexed_rule true a.size a.index a.rot) (λ c a b i. refl) after w
+
+  pub element_executed : (s : Bool) (a : ByElement) → d ≡ a.rd * (L / 8) → n ≡ a.rn * (L / 8) → m ≡ a.rm * (L / 8) → (mid after : List ℕ) (clamped : Bool) →
+      Touched 16 (lane_bytes a.form a.size a.index s) (lane_clamps a.form a.size a.index s) f d n m mid clamped → Cleared mid (d + 16) (d + L / 8) after →
+      Executed L (element_of s a) f after clamped
+  unfolding made clamps_in writes dest_of first_of second_of
+  element_executed false a dest first second mid after clamped t cleared =
+      touched-executed L (Op.Sqrdmlah a) (λ r. refl) f held d n m (record { dest = dest; first = first; second = second }) after clamped
+      (touched-whole a.form a.size false L f d n m mid after clamped held refl t cleared)
+  element_executed true a dest first second mid after clamped t cleared =
+      touched-executed L (Op.Sqrdmlsh a) (λ r. refl) f held d n m (record { dest = dest; first = first; second = second }) after clamped
+      (touched-whole a.form a.size true L f d n m mid after clamped held refl t cleared)
+
 -- the rule of a group of size z
 abbrev pub group_lanes : Size → Bytes → Bytes → Bytes
 group_lanes z = lane_wise z (doubled_high (bits z))
@@ -156,15 +184,6 @@ module _ (L : ℕ) (a : MulGroup) (f : List ℕ) (held : Held L f) (d m : ℕ) (
         (λ x h. s.high x (omega (arith, register-at (group_count a.group))));
     flag = λ qc. or-false qc;
   }
-
--- a form by element with the index that the code has: its first segment stored, and the others cleared
-pub touched-whole : (f : Form) (z : Size) (minus : Bool) {index known : ℕ} (L : ℕ) (file : List ℕ) (d n m : ℕ) (mid after : List ℕ) (r : Bool) → Held L file → known ≡ index →
-    Touched 16 (lane_bytes f z known minus) (lane_clamps f z known minus) file d n m mid r → Cleared mid (d + 16) (d + L / 8) after →
-    Touched (L / 8) (lane_bytes f z index minus) (lane_clamps f z index minus) file d n m after r
-touched-whole f z minus {index} L file d n m mid after r held e t cleared =
-    let k = (legal-exact L).0 held.ok in
-    touched-above f z index minus (L / 8) (omega (arith, k.whole, k.least)) (lane_clamps f z index minus) file d n m mid after r
-    (touched-as 16 (λ i. lane_bytes f z i minus) (λ i. lane_clamps f z i minus) file d n m mid r (sym e) t) cleared
 
 -- ---- what a valid operation has
 

@@ -10,13 +10,6 @@ pub struct Carried {
     pub done: usize,
 }
 
-// What one word's step answers: what to go on with, or what the run that ends there answers.
-#[derive(Clone, Copy)]
-pub enum Stepped {
-    Next(Carried),
-    Stopped(Ran),
-}
-
 impl Carried {
     pub fn new(qc: bool) -> Carried
         ensures { (result.qc ≡ qc) × (result.done ≡ 0) }

@@ -1,32 +1,24 @@
 // The run of a program, and the execution of one word.
-ghost use Rattle.std.specs.Prelude.{◌≡◌, [], ◌∷◌, ◌/◌, ◌<◌, ◌≤◌, length};
+ghost use Rattle.std.specs.Prelude.{◌≡◌, [], ◌∷◌, ◌<◌, ◌≤◌, length};
 ghost use Rattle.isa.specs.Decode.{decode_of};
 ghost use Rattle.isa.specs.Number.{ending_number};
 ghost use Rattle.isa.specs.Run.{start, run as defined_run, outcome_of};
-ghost use Rattle.regfile.specs.Place.{Starts};
 ghost use Rattle.regfile.specs.Sweep.{Held};
 ghost use Rattle.exec.specs.Step.{stepped_of, file_after, refusal_of};
 
-use crate::carried::{Carried, Stepped};
+use crate::carried::Carried;
 use crate::step::step;
 use codec::decode;
-use isa::types::{Checked, Decoded, Ending, Ran};
+use isa::types::{Decoded, Ending, Ran};
 use regfile::check::check_size;
-use regfile::part::starts;
+use regfile::layout::Layout;
 
 // The number of document 01, or request A5's.
+#[tactic(auto, unfolding(isa::specs::Number::ending_number))]
 pub fn ending_number(e: Ending) -> u8
     ensures { result ≡ ending_number e }
 {
-    match e {
-        Ending::Done => 0,
-        Ending::BadLength => 1,
-        Ending::NotPowerOfTwo => 11,
-        Ending::BadSize => 2,
-        Ending::TooLong => 3,
-        Ending::Outside => 4,
-        Ending::Reserved => 5,
-    }
+    e as u8
 }
 
 // Why a word that is no operation ends the run.
@@ -41,24 +33,17 @@ fn refusal(d: Decoded) -> Ending
 }
 
 // One word. `run_words` has checked the file and the number of words.
-fn step_word(
-    l: usize,
-    file: &mut [u8],
-    starts: &[usize; 32],
-    carried: Carried,
-    word: u32,
-) -> Stepped
-    requires held { Held l file.old }
-    requires starts { Starts (l / 8) starts.now }
+fn step_word(layout: &Layout, file: &mut [u8], carried: Carried, word: u32) -> Result<Carried, Ran>
+    requires held { Held layout.now.l file.old }
     requires done_bound { carried.done < 4096 }
-    ensures { (result ≡ stepped_of (decode_of word) l file.old carried) × (file.new ≡ file_after (decode_of word) l file.old) }
+    ensures { (result ≡ stepped_of (decode_of word) layout.now.l file.old carried) × (file.new ≡ file_after (decode_of word) layout.now.l file.old) }
 {
     let decoded = decode(word);
     let Decoded::Operation(op) = decoded else {
-        return Stepped::Stopped(carried.ran(refusal(decoded)));
+        return Err(carried.ran(refusal(decoded)));
     };
-    let clamped = step(l, file, starts, op);
-    Stepped::Next(carried.counted(clamped))
+    let clamped = step(layout, file, op);
+    Ok(carried.counted(clamped))
 }
 
 // The words in order, until one is no operation. `run` has checked the file and the number of words.
@@ -67,20 +52,13 @@ fn run_words(l: usize, file: &mut [u8], qc: bool, words: &[u32]) -> Ran
     requires words_len_bound { length words.now ≤ 4096 }
     ensures { record { answer = result; file = file.new } ≡ defined_run l words.now (start file.old qc) }
 {
-    let starts = starts(l >> 3);
+    let layout = Layout::new(l);
     let mut carried = Carried::new(qc);
-    let mut i = 0;
-    while i < words.len() {
-        let stepped = step_word(l, file, &starts, carried, words[i]);
-        match stepped {
-            Stepped::Next(next) => {
-                carried = next;
-            }
-            Stepped::Stopped(ran) => {
-                return ran;
-            }
+    for word in words {
+        match step_word(&layout, file, carried, *word) {
+            Ok(next) => carried = next,
+            Err(ran) => return ran,
         }
-        i += 1;
     }
     carried.ran(Ending::Done)
 }
@@ -100,18 +78,13 @@ fn refused(ending: Ending, qc: bool) -> Ran
 pub fn run(l: usize, file: &mut [u8], qc: bool, words: &[u32]) -> Ran
     ensures { record { answer = result; file = file.new } ≡ outcome_of l file.old qc words.now }
 {
-    let c = check_size(l, file.len());
-    match c {
-        Checked::Passed => {
-            if 4096 < words.len() {
-                return refused(Ending::TooLong, qc);
-            }
-            run_words(l, file, qc, words)
-        }
-        Checked::BadLength => refused(Ending::BadLength, qc),
-        Checked::NotPowerOfTwo => refused(Ending::NotPowerOfTwo, qc),
-        Checked::BadSize => refused(Ending::BadSize, qc),
+    if let Err(refusal) = check_size(l, file.len()) {
+        return refused(Ending::from(refusal), qc);
     }
+    if 4096 < words.len() {
+        return refused(Ending::TooLong, qc);
+    }
+    run_words(l, file, qc, words)
 }
 
 // Executes one word on a lent register file.

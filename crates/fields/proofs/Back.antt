@@ -14,7 +14,7 @@ use Rattle.isa.specs.Register.{group_count}
 use Rattle.isa.proofs.Fields.{and_left, and_right}
 use Rattle.isa.proofs.File.{cases}
 use Rattle.fields.specs.declared.types.Numbers.{Numbers}
-use Rattle.fields.specs.declared.types.Named.{Named}
+use Rattle.std.specs.Prelude.{Option, Some, None}
 use Rattle.fields.specs.Fields.{form_number, add_fields, mul_fields, indexed_fields, element_fields, group_fields, fields_of}
 use Rattle.fields.specs.Named.{numbers_at, within_of, form_of, add_at, mul_at, indexed_at, element_at, group_with, group_at, named_if, add_unused, mul_unused, indexed_unused, element_unused, group_unused, families, family_named, pick_named, named_of}
 
@@ -112,18 +112,18 @@ pub record Is (b : Bool) (x op : Op) : Type 0 where
   pub unused : b ≡ true
   pub same : x ≡ op
 
-named-if : (b : Bool) (x op : Op) → named_if b x ≡ Named.Operation op → Is b x op
+named-if : (b : Bool) (x op : Op) → named_if b x ≡ Some op → Is b x op
 named-if true x op e = record { unused = refl; same = cc }
 named-if false x op e = let z : ◌≡◌ {A = ℕ} 0 1 = cc in absurd (omega arith)
 
-nothing : (op : Op) → Named.Nothing ≡ Named.Operation op → ⊥
+nothing : (op : Op) → ◌≡◌ {A = Option Op} None (Some op) → ⊥
 nothing op e = let z : ◌≡◌ {A = ℕ} 0 1 = cc in omega arith
 
 module _ (n : Numbers) (op : Op) (within : within_of n ≡ true) where
-  again : (b : Bool) (x : Op) → (b ≡ true → fields_of x ≡ in_order n) → named_if b x ≡ Named.Operation op → fields_of op ≡ in_order n
+  again : (b : Bool) (x : Op) → (b ≡ true → fields_of x ≡ in_order n) → named_if b x ≡ Some op → fields_of op ≡ in_order n
   again b x f h = let p = named-if b x op h in ap fields_of (sym p.same) ∙ f p.unused
 
-  by-family : (k : ℕ) → n.family ≡ k → get_or (families n) k Named.Nothing ≡ Named.Operation op → fields_of op ≡ in_order n
+  by-family : (k : ℕ) → n.family ≡ k → get_or (families n) k None ≡ Some op → fields_of op ≡ in_order n
   unfolding fields_of
   by-family zero e h = again (add_unused n) (Op.Cadd (add_at n)) (add-again n within 0 e) h
   by-family (suc zero) e h = again (add_unused n) (Op.Sqcadd (add_at n)) (add-again n within 1 e) h
@@ -136,11 +136,11 @@ module _ (n : Numbers) (op : Op) (within : within_of n ≡ true) where
   by-family (suc (suc (suc (suc (suc (suc (suc (suc zero)))))))) e h = again (group_unused n) (Op.Sqdmulh (group_at n)) (group-fields-again n within 8 e) h
   by-family (suc (suc (suc (suc (suc (suc (suc (suc (suc k))))))))) e h = absurd (nothing op h)
 
-by-within : (n : Numbers) (op : Op) (t : Bool) → within_of n ≡ t → pick_named t (family_named n) Named.Nothing ≡ Named.Operation op → fields_of op ≡ in_order n
+by-within : (n : Numbers) (op : Op) (t : Bool) → within_of n ≡ t → pick_named t (family_named n) None ≡ Some op → fields_of op ≡ in_order n
 unfolding family_named
 by-within n op true w h = by-family n op w n.family refl h
 by-within n op false w h = absurd (nothing op h)
 
-pub named-fields : (l : List ℕ) (op : Op) → length l ≡ 8 → named_of (numbers_at l) ≡ Named.Operation op → fields_of op ≡ l
+pub named-fields : (l : List ℕ) (op : Op) → length l ≡ 8 → named_of (numbers_at l) ≡ Some op → fields_of op ≡ l
 unfolding named_of
 named-fields l op e h = by-within (numbers_at l) op (within_of (numbers_at l)) refl h ∙ in_order-numbers_at l e

@@ -1,4 +1,3 @@
-pub mod Put
 pub mod Named
 pub mod RoundTrip
 pub mod Back

@@ -18,7 +18,7 @@ use Rattle.isa.specs.Register.{group_count}
 use Rattle.isa.specs.Decode.{size_of, rotation_of}
 use Rattle.isa.specs.Encode.{size_bits, rotation_bits}
 use Rattle.fields.specs.declared.types.Numbers.{Numbers}
-use Rattle.fields.specs.declared.types.Named.{Named}
+use Rattle.std.specs.Prelude.{Some}
 use Rattle.fields.specs.Fields.{form_number, add_fields, mul_fields, indexed_fields, element_fields, group_fields, fields_of}
 use Rattle.fields.specs.Named.{numbers_at, within_of, form_of, add_at, mul_at, indexed_at, element_at, named_if, element_unused, group_with, group_at, group_unused, family_named, named_of}
 use Rattle.fields.proofs.Named.{named-within}
@@ -106,22 +106,22 @@ module _ (family : ℕ) where
   group-within a = within_all (numbers_at (group_fields family a)) (size_small a.size) refl
 
   -- a form that the family has
-  element-named : (mk : ByElement → Op) (a : ByElement) → named_if (element_unused (numbers_at (element_fields family a))) (mk (element_at (numbers_at (element_fields family a)))) ≡ Named.Operation (mk a)
+  element-named : (mk : ByElement → Op) (a : ByElement) → named_if (element_unused (numbers_at (element_fields family a))) (mk (element_at (numbers_at (element_fields family a)))) ≡ Some (mk a)
   unfolding numbers_at
   element-named mk a = rw (form_small a.form, form-back a.form, size_back a.size)
 
-  group-named : (a : MulGroup) → named_if (group_unused (numbers_at (group_fields family a))) (Op.Sqdmulh (group_at (numbers_at (group_fields family a)))) ≡ Named.Operation (Op.Sqdmulh a)
+  group-named : (a : MulGroup) → named_if (group_unused (numbers_at (group_fields family a))) (Op.Sqdmulh (group_at (numbers_at (group_fields family a)))) ≡ Some (Op.Sqdmulh a)
   unfolding numbers_at
   group-named a = rw (group-unused a.group, group-with-back a.group, size_back a.size)
 
-pub fields-named : (op : Op) → named_of (numbers_at (fields_of op)) ≡ Named.Operation op
+pub fields-named : (op : Op) → named_of (numbers_at (fields_of op)) ≡ Some op
 unfolding fields_of numbers_at family_named
-fields-named (Op.Cadd a) = sym (named-within (numbers_at (add_fields 0 a)) (add-within 0 a)) ∙ ap (λ (x : Add). Named.Operation (Op.Cadd x)) (add_back 0 a)
-fields-named (Op.Sqcadd a) = sym (named-within (numbers_at (add_fields 1 a)) (add-within 1 a)) ∙ ap (λ (x : Add). Named.Operation (Op.Sqcadd x)) (add_back 1 a)
-fields-named (Op.Cmla a) = sym (named-within (numbers_at (mul_fields 2 a)) (mul-within 2 a)) ∙ ap (λ (x : Mul). Named.Operation (Op.Cmla x)) (mul-back 2 a)
-fields-named (Op.CmlaIndexed a) = sym (named-within (numbers_at (indexed_fields 3 a)) (indexed-within 3 a)) ∙ ap (λ (x : MulIndexed). Named.Operation (Op.CmlaIndexed x)) (indexed-back 3 a)
-fields-named (Op.Sqrdcmlah a) = sym (named-within (numbers_at (mul_fields 4 a)) (mul-within 4 a)) ∙ ap (λ (x : Mul). Named.Operation (Op.Sqrdcmlah x)) (mul-back 4 a)
-fields-named (Op.SqrdcmlahIndexed a) = sym (named-within (numbers_at (indexed_fields 5 a)) (indexed-within 5 a)) ∙ ap (λ (x : MulIndexed). Named.Operation (Op.SqrdcmlahIndexed x)) (indexed-back 5 a)
+fields-named (Op.Cadd a) = sym (named-within (numbers_at (add_fields 0 a)) (add-within 0 a)) ∙ ap (λ (x : Add). Some (Op.Cadd x)) (add_back 0 a)
+fields-named (Op.Sqcadd a) = sym (named-within (numbers_at (add_fields 1 a)) (add-within 1 a)) ∙ ap (λ (x : Add). Some (Op.Sqcadd x)) (add_back 1 a)
+fields-named (Op.Cmla a) = sym (named-within (numbers_at (mul_fields 2 a)) (mul-within 2 a)) ∙ ap (λ (x : Mul). Some (Op.Cmla x)) (mul-back 2 a)
+fields-named (Op.CmlaIndexed a) = sym (named-within (numbers_at (indexed_fields 3 a)) (indexed-within 3 a)) ∙ ap (λ (x : MulIndexed). Some (Op.CmlaIndexed x)) (indexed-back 3 a)
+fields-named (Op.Sqrdcmlah a) = sym (named-within (numbers_at (mul_fields 4 a)) (mul-within 4 a)) ∙ ap (λ (x : Mul). Some (Op.Sqrdcmlah x)) (mul-back 4 a)
+fields-named (Op.SqrdcmlahIndexed a) = sym (named-within (numbers_at (indexed_fields 5 a)) (indexed-within 5 a)) ∙ ap (λ (x : MulIndexed). Some (Op.SqrdcmlahIndexed x)) (indexed-back 5 a)
 fields-named (Op.Sqrdmlah a) = sym (named-within (numbers_at (element_fields 6 a)) (element-within 6 a)) ∙ element-named 6 Op.Sqrdmlah a
 fields-named (Op.Sqrdmlsh a) = sym (named-within (numbers_at (element_fields 7 a)) (element-within 7 a)) ∙ element-named 7 Op.Sqrdmlsh a
 fields-named (Op.Sqdmulh a) = sym (named-within (numbers_at (group_fields 8 a)) (group-within 8 a)) ∙ group-named 8 a

@@ -1,5 +1,5 @@
 -- Which operation eight fields name.
-use Rattle.std.specs.Prelude.{ℕ, zero, suc, Bool, true, false, ◌&&◌, ◌||◌, List, [], ◌∷◌, eqb, leb, get_or}
+use Rattle.std.specs.Prelude.{ℕ, zero, suc, Bool, true, false, ◌&&◌, ◌||◌, List, [], ◌∷◌, eqb, leb, get_or, Option, Some, None}
 use Rattle.isa.specs.Decode.{size_of, rotation_of}
 use Rattle.isa.specs.declared.types.Form.{Form}
 use Rattle.isa.specs.declared.types.Add.{Add}
@@ -10,7 +10,6 @@ use Rattle.isa.specs.declared.types.Group.{Group}
 use Rattle.isa.specs.declared.types.MulGroup.{MulGroup}
 use Rattle.isa.specs.declared.types.Op.{Op}
 use Rattle.fields.specs.declared.types.Numbers.{Numbers}
-use Rattle.fields.specs.declared.types.Named.{Named}
 
 -- the fields by name
 unfoldable pub numbers_at : List ℕ → Numbers
@@ -58,9 +57,9 @@ element_at n = record { form = form_of n.form; size = size_of n.size; rm = n.sec
 abbrev pub group_at : Numbers → MulGroup
 group_at n = record { size = size_of n.size; zm = n.second; zdn = n.destination; group = group_with n.form }
 
-abbrev pub named_if : Bool → Op → Named
-named_if true op = Named.Operation op
-named_if false op = Named.Nothing
+abbrev pub named_if : {A : Type 0} → Bool → A → Option A
+named_if true a = Some a
+named_if false a = None
 
 -- what the family does not use has to be 0, and a form one that it has
 abbrev pub add_unused : Numbers → Bool
@@ -79,7 +78,7 @@ abbrev pub group_unused : Numbers → Bool
 group_unused n = (eqb n.form 2 || eqb n.form 4) && (eqb n.turns 0 && (eqb n.first 0 && eqb n.index 0))
 
 -- the families in the order of the listing's names
-abbrev pub families : Numbers → List Named
+abbrev pub families : Numbers → List (Option Op)
 families n =
     named_if (add_unused n) (Op.Cadd (add_at n)) ∷
     named_if (add_unused n) (Op.Sqcadd (add_at n)) ∷
@@ -91,15 +90,15 @@ families n =
     named_if (element_unused n) (Op.Sqrdmlsh (element_at n)) ∷
     named_if (group_unused n) (Op.Sqdmulh (group_at n)) ∷ []
 
-unfoldable pub family_named : Numbers → Named
-family_named n = get_or (families n) n.family Named.Nothing
+unfoldable pub family_named : Numbers → Option Op
+family_named n = get_or (families n) n.family None
 
-abbrev pub pick_named : Bool → Named → Named → Named
+abbrev pub pick_named : Bool → Option Op → Option Op → Option Op
 pick_named true a b = a
 pick_named false a b = b
 
-unfoldable pub named_of : Numbers → Named
-named_of n = pick_named (within_of n) (family_named n) Named.Nothing
+unfoldable pub named_of : Numbers → Option Op
+named_of n = pick_named (within_of n) (family_named n) None
 
 -- fields that name no operation; above every number of the papers
 abbrev pub no_operation : ℕ

@@ -1,9 +1,8 @@
 // The operation that eight numbers name.
 ghost use Rattle.std.specs.Prelude.{◌≡◌, length};
-ghost use Rattle.codec.specs.Pair.{add_by, mul_by, indexed_by, element_by};
 ghost use Rattle.fields.specs.Named.{numbers_at, within_of, form_of, add_at, mul_at, indexed_at, element_at, group_with, group_at, named_if, add_unused, mul_unused, indexed_unused, element_unused, group_unused, family_named, named_of};
 
-use crate::types::{Named, Numbers};
+use crate::types::Numbers;
 use codec::{rotation_of, size_of};
 use isa::types::{Add, ByElement, Form, Group, Mul, MulGroup, MulIndexed, Op};
 
@@ -108,119 +107,69 @@ fn group_at(n: Numbers) -> MulGroup
     }
 }
 
-// ---- families that differ in one choice
+// ---- the fields of a family, where what it does not use is 0 and the form is one that it has
 
-fn add_op(saturating: bool, a: Add) -> Op
-    ensures { result ≡ add_by saturating a }
+fn named_if<T: Copy>(unused: bool, fields: T) -> Option<T>
+    ensures { result ≡ named_if unused fields }
 {
-    if saturating {
-        Op::Sqcadd(a)
-    } else {
-        Op::Cadd(a)
-    }
+    if unused { Some(fields) } else { None }
 }
 
-fn mul_op(rounding: bool, a: Mul) -> Op
-    ensures { result ≡ mul_by rounding a }
-{
-    if rounding {
-        Op::Sqrdcmlah(a)
-    } else {
-        Op::Cmla(a)
-    }
-}
-
-fn indexed_op(rounding: bool, a: MulIndexed) -> Op
-    ensures { result ≡ indexed_by rounding a }
-{
-    if rounding {
-        Op::SqrdcmlahIndexed(a)
-    } else {
-        Op::CmlaIndexed(a)
-    }
-}
-
-fn element_op(minus: bool, a: ByElement) -> Op
-    ensures { result ≡ element_by minus a }
-{
-    if minus {
-        Op::Sqrdmlsh(a)
-    } else {
-        Op::Sqrdmlah(a)
-    }
-}
-
-// ---- an operation, where what the family does not use is 0 and the form is one that it has
-
-fn named_if(unused: bool, op: Op) -> Named
-    ensures { result ≡ named_if unused op }
-{
-    if unused {
-        Named::Operation(op)
-    } else {
-        Named::Nothing
-    }
-}
-
-fn add_named(saturating: bool, n: Numbers) -> Named
-    ensures { result ≡ named_if (add_unused n) (add_by saturating (add_at n)) }
+fn add_named(n: Numbers) -> Option<Add>
+    ensures { result ≡ named_if (add_unused n) (add_at n) }
 {
     let unused = (n.form == 0) & ((n.first == 0) & (n.index == 0));
-    named_if(unused, add_op(saturating, add_at(n)))
+    named_if(unused, add_at(n))
 }
 
-fn mul_named(rounding: bool, n: Numbers) -> Named
-    ensures { result ≡ named_if (mul_unused n) (mul_by rounding (mul_at n)) }
+fn mul_named(n: Numbers) -> Option<Mul>
+    ensures { result ≡ named_if (mul_unused n) (mul_at n) }
 {
     let unused = (n.form == 0) & (n.index == 0);
-    named_if(unused, mul_op(rounding, mul_at(n)))
+    named_if(unused, mul_at(n))
 }
 
-fn indexed_named(rounding: bool, n: Numbers) -> Named
-    ensures { result ≡ named_if (indexed_unused n) (indexed_by rounding (indexed_at n)) }
+fn indexed_named(n: Numbers) -> Option<MulIndexed>
+    ensures { result ≡ named_if (indexed_unused n) (indexed_at n) }
 {
-    named_if(n.form == 0, indexed_op(rounding, indexed_at(n)))
+    named_if(n.form == 0, indexed_at(n))
 }
 
-fn element_named(minus: bool, n: Numbers) -> Named
-    ensures { result ≡ named_if (element_unused n) (element_by minus (element_at n)) }
+fn element_named(n: Numbers) -> Option<ByElement>
+    ensures { result ≡ named_if (element_unused n) (element_at n) }
 {
     let unused = (n.form <= 2) & (n.turns == 0);
-    named_if(unused, element_op(minus, element_at(n)))
+    named_if(unused, element_at(n))
 }
 
-fn group_named(n: Numbers) -> Named
-    ensures { result ≡ named_if (group_unused n) (Op.Sqdmulh (group_at n)) }
+fn group_named(n: Numbers) -> Option<MulGroup>
+    ensures { result ≡ named_if (group_unused n) (group_at n) }
 {
     let form = (n.form == 2) | (n.form == 4);
     let unused = form & ((n.turns == 0) & ((n.first == 0) & (n.index == 0)));
-    named_if(unused, Op::Sqdmulh(group_at(n)))
+    named_if(unused, group_at(n))
 }
 
-fn family_named(n: Numbers) -> Named
+fn family_named(n: Numbers) -> Option<Op>
     ensures { result ≡ family_named n }
 {
     let family = n.family;
     match family {
-        0 => add_named(false, n),
-        1 => add_named(true, n),
-        2 => mul_named(false, n),
-        3 => indexed_named(false, n),
-        4 => mul_named(true, n),
-        5 => indexed_named(true, n),
-        6 => element_named(false, n),
-        7 => element_named(true, n),
-        8 => group_named(n),
-        _ => Named::Nothing,
+        0 => add_named(n).map(Op::Cadd),
+        1 => add_named(n).map(Op::Sqcadd),
+        2 => mul_named(n).map(Op::Cmla),
+        3 => indexed_named(n).map(Op::CmlaIndexed),
+        4 => mul_named(n).map(Op::Sqrdcmlah),
+        5 => indexed_named(n).map(Op::SqrdcmlahIndexed),
+        6 => element_named(n).map(Op::Sqrdmlah),
+        7 => element_named(n).map(Op::Sqrdmlsh),
+        8 => group_named(n).map(Op::Sqdmulh),
+        _ => None,
     }
 }
 
-pub fn named_by(n: Numbers) -> Named
+pub fn named_by(n: Numbers) -> Option<Op>
     ensures { result ≡ named_of n }
 {
-    if within(n) {
-        family_named(n)
-    } else {
-        Named::Nothing
-    }
+    if within(n) { family_named(n) } else { None }
 }

@@ -8,11 +8,7 @@ use isa::types::{Add, ByElement, Form, Mul, MulGroup, MulIndexed, Op};
 fn form_number(form: Form) -> u32
     ensures { result ≡ form_number form }
 {
-    match form {
-        Form::Scalar => 0,
-        Form::Vector64 => 1,
-        Form::Vector128 => 2,
-    }
+    form as u32
 }
 
 // ---- the eight numbers, by the kind of operation
@@ -124,7 +120,5 @@ pub fn put_fields(fields: &mut [u32], v: [u32; 8])
     requires { length fields.old ≡ 8 }
     ensures { fields.new ≡ v }
 {
-    for i in 0..8 {
-        fields[i] = v[i];
-    }
+    fields.copy_from_slice(&v);
 }

@@ -1,7 +1,5 @@
-use isa::types::Op;
-
 // Eight numbers by name.
-#[derive(Clone, Copy)]
+#[derive(Clone, Copy, Debug, PartialEq, Eq)]
 pub struct Numbers {
     pub family: u32,
     pub size: u32,
@@ -11,11 +9,4 @@ pub struct Numbers {
     pub first: u32,
     pub second: u32,
     pub index: u32,
-}
-
-// The operation that they name, if they name one.
-#[derive(Clone, Copy)]
-pub enum Named {
-    Operation(Op),
-    Nothing,
 }

@@ -7,7 +7,7 @@ use mathlib.Core.Logic.{◌↔◌}
 use mathlib.Core.Bool.{Bool, true, false}
 use native.Mathlib.Omega.{arith}
 use Rattle.isa.specs.declared.types.Op.{Op}
-use Rattle.isa.specs.declared.types.Written.{Written}
+use Rattle.std.specs.Prelude.{Ok}
 use Rattle.isa.specs.Encode.{WriteChecks, answer, write_checks, encode_of}
 use Rattle.isa.specs.Number.{written_number, written_word}
 use Rattle.isa.specs.Returned.{WriteReturns, WritesAs, done, no_size, no_rotation, register_limit, group_start, index_limit}
@@ -45,7 +45,7 @@ pub record ChecksPassed (k : WriteChecks) (w : ℕ) : Type 0 where
   pub index : k.index ≡ true
   pub word : k.word ≡ w
 
-pub passes : (k : WriteChecks) (w : ℕ) → ChecksPassed k w → answer k ≡ Written.Word w
+pub passes : (k : WriteChecks) (w : ℕ) → ChecksPassed k w → answer k ≡ Ok w
 unfolding answer
 passes k w p = rw (p.size, p.rotation, p.registers, p.start, p.index, p.word)
 
@@ -58,7 +58,7 @@ passed op n w (register_limit es er eg) z = absurd (omega arith)
 passed op n w (group_start es er eg et) z = absurd (omega arith)
 passed op n w (index_limit es er eg et ei) z = absurd (omega arith)
 
-pub word-exact : (op : Op) (w : ℕ) → (encode_of op ≡ Written.Word w) ↔ ChecksPassed (write_checks op) w
+pub word-exact : (op : Op) (w : ℕ) → (encode_of op ≡ Ok w) ↔ ChecksPassed (write_checks op) w
 unfolding encode_of written_number written_word
 word-exact op w = ((λ e. passed op 0 w ((encode-exact op 0 w).0 (ap written_number e, ap written_word e)) refl), passes (write_checks op) w)
 

@@ -15,7 +15,9 @@ use Rattle.isa.specs.File.{check_of}
 use Rattle.isa.specs.Run.{State, start, after, ended, run, checked_run, outcome_of}
 use Rattle.isa.specs.declared.types.Op.{Op}
 use Rattle.isa.specs.declared.types.Decoded.{Decoded}
-use Rattle.isa.specs.declared.types.Checked.{Checked}
+use Rattle.isa.specs.Check.{Check}
+use Rattle.isa.specs.declared.types.FileRefusal.{FileRefusal}
+use Rattle.std.specs.Prelude.{Ok}
 use Rattle.isa.specs.declared.types.Ending.{Ending}
 use Rattle.isa.proofs.File.{file_of-length}
 use Rattle.isa.proofs.Run.{Stop, run_on, run-stop}
@@ -55,12 +57,12 @@ module _ (L : ℕ) (words : List ℕ) (s₀ s : State) (i : ℕ) (g : Going L wo
 -- ---- the whole call, by what the check of the length and the size answered
 
 module _ (L : ℕ) (file : List ℕ) (qc : Bool) (words : List ℕ) where
-  pub outcome-of : (k : Checked) → check_of L (length file) ≡ k → checked_run k L words (start file qc) ≡ outcome_of L file qc words
+  pub outcome-of : (k : Check FileRefusal) → check_of L (length file) ≡ k → checked_run k L words (start file qc) ≡ outcome_of L file qc words
   unfolding outcome_of
   outcome-of k e = rw e
 
-  pub outcome-long : check_of L (length file) ≡ Checked.Passed → 4096 < length words → ended Ending.TooLong (start file qc) ≡ outcome_of L file qc words
-  outcome-long e h = rw (← outcome-of Checked.Passed e, lt-ltb 4096 (length words) h)
+  pub outcome-long : check_of L (length file) ≡ (Ok tt) → 4096 < length words → ended Ending.TooLong (start file qc) ≡ outcome_of L file qc words
+  outcome-long e h = rw (← outcome-of (Ok tt) e, lt-ltb 4096 (length words) h)
 
-  pub outcome-runs : check_of L (length file) ≡ Checked.Passed → length words ≤ 4096 → run L words (start file qc) ≡ outcome_of L file qc words
-  outcome-runs e h = rw (← outcome-of Checked.Passed e, le-ltb 4096 (length words) h)
+  pub outcome-runs : check_of L (length file) ≡ (Ok tt) → length words ≤ 4096 → run L words (start file qc) ≡ outcome_of L file qc words
+  outcome-runs e h = rw (← outcome-of (Ok tt) e, le-ltb 4096 (length words) h)

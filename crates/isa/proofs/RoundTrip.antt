@@ -18,7 +18,7 @@ use Rattle.isa.specs.declared.types.Group.{Group}
 use Rattle.isa.specs.declared.types.MulGroup.{MulGroup}
 use Rattle.isa.specs.declared.types.Op.{Op}
 use Rattle.isa.specs.declared.types.Decoded.{Decoded}
-use Rattle.isa.specs.declared.types.Written.{Written}
+use Rattle.std.specs.Prelude.{Ok}
 use Rattle.isa.specs.Field.{Row, field_value, field_values, row_word}
 use Rattle.isa.specs.Table.{size, Q, i2, i1, ZmH, ZmS, scalar_row, vector_row, element_row_fields, cadd, sqcadd, cmla, sqrdcmlah, cmla_h, cmla_s, sqrdcmlah_h, sqrdcmlah_s, sqrdmlah_scalar, sqrdmlah_vector, sqrdmlsh_scalar, sqrdmlsh_vector, ZdnTwo, ZdnFour, sqdmulh_two, sqdmulh_four}
 use Rattle.isa.specs.Decode.{table, decode_of, add_of, mul_of, indexed_of, element_of, vector_of, size_of, Reads, element_h, element_s, group_of}
@@ -60,11 +60,11 @@ sqdmulh-at-four = record { row = refl; room = refl; whole = refl }
 -- ---- from a word to its operation and back
 
 -- an operation that passes every check for the word
-known : (w : ℕ) (a op : Op) → ChecksPassed (write_checks a) w → Decoded.Operation a ≡ Decoded.Operation op → encode_of op ≡ Written.Word w
+known : (w : ℕ) (a op : Op) → ChecksPassed (write_checks a) w → Decoded.Operation a ≡ Decoded.Operation op → encode_of op ≡ Ok w
 known w a op p e = ap encode_of (sym (same_op a op e)) ∙ (word-exact a w).1 p
 
 module _ (mk : ByElement → Op) (scalar vector : ℕ) (means : (a : ByElement) → write_checks (mk a) ≡ element_checks (scalar_row scalar) (vector_row vector) a) where
-  element-back : (f : Form) (w n : ℕ) → field_value size w ≡ n → w ≡ form_word (scalar_row scalar) (vector_row vector) f (field_values element_row_fields w) → (op : Op) → element_of mk f w (size_of n) ≡ Decoded.Operation op → encode_of op ≡ Written.Word w
+  element-back : (f : Form) (w n : ℕ) → field_value size w ≡ n → w ≡ form_word (scalar_row scalar) (vector_row vector) f (field_values element_row_fields w) → (op : Op) → element_of mk f w (size_of n) ≡ Decoded.Operation op → encode_of op ≡ Ok w
   element-back f w zero s e op k = absurd (not-reserved op k)
   element-back f w (suc zero) s e op k = known w (mk (element_h f w)) op (rw means (element_h-back scalar vector f w e s)) k
   element-back f w (suc (suc zero)) s e op k = known w (mk (element_s f w)) op (rw means (element_s-back scalar vector f w e s)) k
@@ -76,13 +76,13 @@ vector-form scalar vector zero vs h = refl
 vector-form scalar vector (suc zero) vs h = refl
 vector-form scalar vector (suc (suc q)) vs h = absurd (omega arith)
 
-pub decode-encode : (w : ℕ) (op : Op) → decode_of w ≡ Decoded.Operation op → encode_of op ≡ Written.Word w
+pub decode-encode : (w : ℕ) (op : Op) → decode_of w ≡ Decoded.Operation op → encode_of op ≡ Ok w
 unfolding decode_of write_checks
 decode-encode w op =
     let mlah = element-back Op.Sqrdmlah sqrdmlah_scalar.base sqrdmlah_vector.base (λ a. refl) in
     let mlsh = element-back Op.Sqrdmlsh sqrdmlsh_scalar.base sqrdmlsh_vector.base (λ a. refl) in
     let vector : (s v : ℕ) → Of (vector_row v) w → w ≡ form_word (scalar_row s) (vector_row v) (vector_of (field_value Q w)) (field_values element_row_fields w) = λ s v e. e ∙ vector-form s v (field_value Q w) (field_values element_row_fields w) (omega arith) in
-    by_row table w (Decoded.Operation op) (encode_of op ≡ Written.Word w)
+    by_row table w (Decoded.Operation op) (encode_of op ≡ Ok w)
     ((λ e k. known w (Op.Cadd (add_of w)) op (add_back cadd.base w e) k) ⨾
     (λ e k. known w (Op.Sqcadd (add_of w)) op (add_back sqcadd.base w e) k) ⨾
     (λ e k. known w (Op.Cmla (mul_of w)) op (mul-back cmla.base w e) k) ⨾
@@ -180,8 +180,8 @@ passed_reads w (Op.Sqrdmlah a) p = element-reads Op.Sqrdmlah sqrdmlah_scalar.bas
 passed_reads w (Op.Sqrdmlsh a) p = element-reads Op.Sqrdmlsh sqrdmlsh_scalar.base sqrdmlsh_vector.base w refl refl (row_read w 11) (row_read w 10) a p a.form refl p.word
 passed_reads w (Op.Sqdmulh a) p = group_reads w a p a.group refl
 
-pub encode-decode : (op : Op) (w : ℕ) → encode_of op ≡ Written.Word w → Reads w op
+pub encode-decode : (op : Op) (w : ℕ) → encode_of op ≡ Ok w → Reads w op
 encode-decode op w h = passed_reads w op ((word-exact op w).0 h)
 
-pub encode_injective : (a b : Op) (w : ℕ) → encode_of a ≡ Written.Word w → encode_of b ≡ Written.Word w → a ≡ b
+pub encode_injective : (a b : Op) (w : ℕ) → encode_of a ≡ Ok w → encode_of b ≡ Ok w → a ≡ b
 encode_injective a b w p q = same_op a b (sym (encode-decode a w p).1 ∙ (encode-decode b w q).1)

@@ -1,8 +1,9 @@
 -- The register file of a vector length L: 4 x L bytes, registers 0 to 31 in order, L/8 bytes each.
-use Rattle.std.specs.Prelude.{◌≡◌, ℕ, zero, suc, ◌+◌, ◌*◌, ◌/◌, ◌%◌, ◌^◌, ◌≤◌, List, [], ◌∷◌, Bool, true, false, ◌&&◌, ◌||◌, leb, ltb, eqb, length, get_or, take, drop}
+use Rattle.std.specs.Prelude.{◌≡◌, ℕ, zero, suc, ◌+◌, ◌*◌, ◌/◌, ◌%◌, ◌^◌, ◌≤◌, List, [], ◌∷◌, Bool, true, ◌&&◌, ◌||◌, leb, ltb, eqb, length, get_or, take, drop, Ok, Err}
+use Rattle.isa.specs.Check.{Check, unless}
 use Rattle.isa.specs.Register.{Regs}
-use Rattle.isa.specs.declared.types.Checked.{Checked}
-use Rattle.isa.specs.declared.types.Asked.{Asked}
+use Rattle.isa.specs.declared.types.FileRefusal.{FileRefusal}
+use Rattle.isa.specs.declared.types.RegisterRefusal.{RegisterRefusal}
 
 -- ---- vector lengths in bits
 
@@ -46,35 +47,24 @@ file_of L regs = tabulate (4 * L) (λ i. regs (i / (L / 8)) (i % (L / 8)))
 
 -- ---- the checks before a file is used, and one register's part
 
-abbrev pub pick_checked : Bool → Checked → Checked → Checked
-pick_checked true a b = a
-pick_checked false a b = b
-
 -- 1, then 11, then 2
-unfoldable pub check_of : ℕ → ℕ → Checked
+unfoldable pub check_of : ℕ → ℕ → Check FileRefusal
 check_of L size =
-    pick_checked (multiple L) (pick_checked (legal L) (pick_checked (eqb size (4 * L)) Checked.Passed Checked.BadSize) Checked.NotPowerOfTwo) Checked.BadLength
-
-abbrev pub pick_asked : Bool → Asked → Asked → Asked
-pick_asked true a b = a
-pick_asked false a b = b
+    unless (multiple L) FileRefusal.BadLength
+    (unless (legal L) FileRefusal.NotPowerOfTwo
+    (unless (eqb size (4 * L)) FileRefusal.BadSize (Ok tt)))
 
 -- then 6
-abbrev pub register_after : Checked → ℕ → Asked
-register_after Checked.Passed r = pick_asked (ltb r 32) Asked.Found Asked.NoRegister
-register_after Checked.BadLength r = Asked.BadLength
-register_after Checked.NotPowerOfTwo r = Asked.NotPowerOfTwo
-register_after Checked.BadSize r = Asked.BadSize
+abbrev pub register_after : Check FileRefusal → ℕ → Check RegisterRefusal
+register_after (Ok passed) r = unless (ltb r 32) RegisterRefusal.NoRegister (Ok tt)
+register_after (Err refusal) r = Err (RegisterRefusal.File refusal)
 
-unfoldable pub register_check : ℕ → ℕ → ℕ → Asked
+unfoldable pub register_check : ℕ → ℕ → ℕ → Check RegisterRefusal
 register_check L size r = register_after (check_of L size) r
 
-abbrev pub part_if : Asked → List ℕ → List ℕ
-part_if Asked.Found part = part
-part_if Asked.BadLength part = []
-part_if Asked.NotPowerOfTwo part = []
-part_if Asked.BadSize part = []
-part_if Asked.NoRegister part = []
+abbrev pub part_if : Check RegisterRefusal → List ℕ → List ℕ
+part_if (Ok found) part = part
+part_if (Err refusal) part = []
 
 -- the bytes of register r, nothing on a refusal
 unfoldable pub register_of : ℕ → List ℕ → ℕ → List ℕ

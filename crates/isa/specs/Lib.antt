@@ -1,5 +1,6 @@
 -- What a reader has to believe of this crate, in the order of document 01.
--- words: as bytes, the form of a row, the table, which words are operations, decoding, writing
+-- checks and their refusals; words: as bytes, the form of a row, the table, which words are operations, decoding, writing
+pub mod Check
 pub mod Bytes
 pub mod Field
 pub mod Table

@@ -1,11 +1,12 @@
 -- The run that demand 3 speaks of, and the whole call with its refusals.
-use Rattle.std.specs.Prelude.{ℕ, ◌+◌, Bool, true, false, List, [], ◌∷◌, ltb, length}
+use Rattle.std.specs.Prelude.{ℕ, ◌+◌, Bool, true, false, List, [], ◌∷◌, ltb, length, Ok, Err}
 use Rattle.isa.specs.Decode.{decode_of}
 use Rattle.isa.specs.Meaning.{step, flag_after}
+use Rattle.isa.specs.Check.{Check}
 use Rattle.isa.specs.File.{byte_at, file_of, check_of}
 use Rattle.isa.specs.declared.types.Op.{Op}
 use Rattle.isa.specs.declared.types.Decoded.{Decoded}
-use Rattle.isa.specs.declared.types.Checked.{Checked}
+use Rattle.isa.specs.declared.types.FileRefusal.{FileRefusal}
 use Rattle.isa.specs.declared.types.Ending.{Ending}
 use Rattle.isa.specs.declared.types.Ran.{Ran}
 
@@ -50,12 +51,16 @@ abbrev pub pick_outcome : Bool → Outcome → Outcome → Outcome
 pick_outcome true a b = a
 pick_outcome false a b = b
 
+-- a run that a length or a size refuses ends with that refusal
+abbrev pub ending_for : FileRefusal → Ending
+ending_for FileRefusal.BadLength = Ending.BadLength
+ending_for FileRefusal.NotPowerOfTwo = Ending.NotPowerOfTwo
+ending_for FileRefusal.BadSize = Ending.BadSize
+
 -- 1, 11 and 2, then 3, then the run
-abbrev pub checked_run : Checked → ℕ → List ℕ → State → Outcome
-checked_run Checked.Passed L words s = pick_outcome (ltb 4096 (length words)) (ended Ending.TooLong s) (run L words s)
-checked_run Checked.BadLength L words s = ended Ending.BadLength s
-checked_run Checked.NotPowerOfTwo L words s = ended Ending.NotPowerOfTwo s
-checked_run Checked.BadSize L words s = ended Ending.BadSize s
+abbrev pub checked_run : Check FileRefusal → ℕ → List ℕ → State → Outcome
+checked_run (Ok passed) L words s = pick_outcome (ltb 4096 (length words)) (ended Ending.TooLong s) (run L words s)
+checked_run (Err refusal) L words s = ended (ending_for refusal) s
 
 -- the whole call
 unfoldable pub outcome_of : ℕ → List ℕ → Bool → List ℕ → Outcome

@@ -1,6 +1,5 @@
 pub mod Bytes
 pub mod Place
-pub mod Refused
 pub mod Cut
 pub mod Sweep
 pub mod Group

@@ -17,6 +17,12 @@ pub record Half (half w n : ℕ) : Type 0 where
 pub record Starts (w : ℕ) (starts : List ℕ) : Type 0 where
   pub at : (r : ℕ) → r < 32 → get_or starts r 0 ≡ r * w
 
+-- the numbers of three registers
+pub record Numbers (d n m : ℕ) : Type 0 where
+  pub dest : d < 32
+  pub first : n < 32
+  pub second : m < 32
+
 -- from `start` to `end` stands the part that is handed out for register r, in every file of this size
 pub record Cut (L size r start end : ℕ) : Type 0 where
   pub order : start ≤ end

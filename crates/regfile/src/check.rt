@@ -3,7 +3,7 @@ ghost use Rattle.std.specs.Prelude.{◌≡◌};
 ghost use Rattle.isa.specs.File.{legal, multiple, check_of, register_check};
 ghost use Rattle.isa.specs.Number.{asked_number};
 
-use isa::types::{Asked, Checked};
+use isa::types::{FileRefusal, RegisterRefusal};
 
 // Whether l is a legal vector length.
 pub fn is_legal(l: usize) -> bool
@@ -21,50 +21,43 @@ fn is_multiple(l: usize) -> bool
 
 // Whether l is a legal vector length and `size` the number of bytes of its file. Both are tested together first: tested one in the other, they cost
 // the run's loop an instruction a word.
-pub fn check_size(l: usize, size: usize) -> Checked
+pub fn check_size(l: usize, size: usize) -> Result<(), FileRefusal>
     ensures { result ≡ check_of l size }
 {
     let legal = is_legal(l);
     if legal & (size == l << 2) {
-        return Checked::Passed;
+        return Ok(());
     }
     if legal {
-        return Checked::BadSize;
+        return Err(FileRefusal::BadSize);
     }
     if is_multiple(l) {
-        return Checked::NotPowerOfTwo;
+        return Err(FileRefusal::NotPowerOfTwo);
     }
-    Checked::BadLength
+    Err(FileRefusal::BadLength)
 }
 
 // The same, and then whether there is a register n.
-pub fn check_register(l: usize, size: usize, n: usize) -> Asked
+#[tactic(auto, unfolding(isa::specs::File::register_check))]
+pub fn check_register(l: usize, size: usize, n: usize) -> Result<(), RegisterRefusal>
     ensures { result ≡ register_check l size n }
 {
-    let c = check_size(l, size);
-    match c {
-        Checked::Passed => {
-            if n < 32 {
-                Asked::Found
-            } else {
-                Asked::NoRegister
-            }
-        }
-        Checked::BadLength => Asked::BadLength,
-        Checked::NotPowerOfTwo => Asked::NotPowerOfTwo,
-        Checked::BadSize => Asked::BadSize,
+    check_size(l, size)?;
+    if n < 32 {
+        Ok(())
+    } else {
+        Err(RegisterRefusal::NoRegister)
     }
 }
 
 // The number of document 01, or request A5's.
-pub fn asked_number(a: Asked) -> u8
-    ensures { result ≡ asked_number a }
+#[tactic(auto, unfolding(isa::specs::Number::asked_number))]
+pub fn asked_number(asked: Result<(), RegisterRefusal>) -> u8
+    ensures { result ≡ asked_number asked }
 {
-    match a {
-        Asked::Found => 0,
-        Asked::BadLength => 1,
-        Asked::NotPowerOfTwo => 11,
-        Asked::BadSize => 2,
-        Asked::NoRegister => 6,
+    match asked {
+        Ok(()) => 0,
+        Err(RegisterRefusal::File(refusal)) => refusal as u8,
+        Err(RegisterRefusal::NoRegister) => 6,
     }
 }

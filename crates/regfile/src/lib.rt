@@ -2,5 +2,6 @@
 #![tactic(auto)]
 
 pub mod check;
+pub mod layout;
 pub mod part;
 pub mod segment;

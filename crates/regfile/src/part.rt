@@ -4,14 +4,7 @@ ghost use Rattle.isa.specs.File.{register_of};
 ghost use Rattle.regfile.specs.Place.{Half, Short, Starts, Cut};
 
 use crate::check::check_register;
-use isa::types::Asked;
-
-// A part of a file, by its start and its end.
-#[derive(Clone, Copy)]
-struct Span {
-    start: usize,
-    end: usize,
-}
+use std::ops::Range;
 
 // n * w from n / 2 * w. Called by `offset`, with the leading bits of its n.
 fn appended(half: usize, w: usize, n: usize) -> usize
@@ -39,46 +32,39 @@ pub fn starts(w: usize) -> [usize; 32]
     requires { w ≤ 256 }
     ensures { Starts w result }
 {
-    let mut r = [0usize; 32];
+    let mut starts = [0; 32];
     let mut at = 0;
-    for i in 0..32 {
-        r[i] = at;
+    for start in &mut starts {
+        *start = at;
         at += w;
     }
-    r
+    starts
 }
 
 // From the start of register n to its end, in a file of `size` bytes; from 0 to 0 on a refusal.
-fn part_of(l: usize, size: usize, n: usize) -> Span
+fn part_of(l: usize, size: usize, n: usize) -> Range<usize>
     ensures { Cut l size n result.start result.end }
 {
-    let Asked::Found = check_register(l, size, n) else {
-        return Span { start: 0, end: 0 };
-    };
-    let w = l >> 3;
-    let a = offset(w, n);
-    Span {
-        start: a,
-        end: a + w,
+    if check_register(l, size, n).is_err() {
+        return 0..0;
     }
+    let w = l >> 3;
+    let start = offset(w, n);
+    start..start + w
 }
 
 // The part of the file for register n, to read and to fill; an empty part on a refusal.
 pub fn register(l: usize, file: &mut [u8], n: usize) -> &mut [u8]
     ensures { result.now ≡ register_of l file.old n }
 {
-    let s = part_of(l, file.len(), n);
-    let a = s.start;
-    let e = s.end;
-    &mut file[a..e]
+    let part = part_of(l, file.len(), n);
+    &mut file[part]
 }
 
 // The same to read only.
 pub fn register_read(l: usize, file: &[u8], n: usize) -> &[u8]
     ensures { result.now ≡ register_of l file.now n }
 {
-    let s = part_of(l, file.len(), n);
-    let a = s.start;
-    let e = s.end;
-    &file[a..e]
+    let part = part_of(l, file.len(), n);
+    &file[part]
 }

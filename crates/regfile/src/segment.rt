@@ -31,10 +31,7 @@ pub fn clear_above(l: usize, file: &mut [u8], d: usize)
     requires l_bound { d + l / 8 ≤ 4 * l }
     ensures { Cleared file.old (d + 16) (d + l / 8) file.new }
 {
-    let w = l >> 3;
-    let mut q = 16;
-    while q < w {
-        write16(file, d + q, [0u8; 16]);
-        q += 16;
+    for k in 1..l >> 7 {
+        write16(file, d + (k << 4), [0u8; 16]);
     }
 }

@@ -1,10 +1,10 @@
 use Rattle.capi.specs.List.{listed_packed}
 use Rattle.capi.proofs.list.packed_listing.Goals as goal
 
-pub returns-in-Text : goal.returns-in-Text
+pub returns-in-Some : goal.returns-in-Some
 unfolding listed_packed
-returns-in-Text c = rw c.in-Text.is
+returns-in-Some c = rw c.in-Some.is
 
-pub returns-in-Room : goal.returns-in-Room
+pub returns-in-None : goal.returns-in-None
 unfolding listed_packed
-returns-in-Room c = rw c.in-Room.is
+returns-in-None c = rw c.in-None.is

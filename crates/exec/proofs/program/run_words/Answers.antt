@@ -1,39 +1,36 @@
-use mathlib.Core.Path.{sym, ◌∙◌}
+use mathlib.Core.Path.{◌≡◌, subst}
 use native.Mathlib.Omega.{arith}
-use Prim.Native.Nat.{◌-◌}
+use Prim.Native.Nat.{ℕ}
+use lib.ListN.{get_or}
+use Rattle.isa.specs.Decode.{decode_of}
 use Rattle.isa.specs.Run.{start}
 use Rattle.isa.proofs.File.{legal-exact}
-use Rattle.exec.proofs.Words.{words-start, words-on, words-stop, words-end}
+use Rattle.exec.specs.Step.{stepped_of, file_after}
+use Rattle.exec.proofs.Words.{words-on, words-stop, words-end}
 use Rattle.exec.proofs.program.run_words.Goals as goal
+use Rattle.exec.proofs.program.run_words.Goals.{After-step_word}
 
-pub starts-starts-requires : goal.starts-starts-requires
-starts-starts-requires c = omega (arith, ((legal-exact c.args.l).0 c.requires.held.ok).most)
+pub new-layout-requires : goal.new-layout-requires
+new-layout-requires c = omega (arith, ((legal-exact c.args.l).0 c.requires.held.ok).most)
 
-pub loop-i-init : goal.loop-i-init
-loop-i-init c = let a = c.args in
-    words-start a.l a.words.now a.file.now a.qc c.new-carried.result c.requires.held.sized c.new-carried.ensures
+-- the layout is that of the length
+stepped : (c : After-step_word) →
+    (c.step_word.result ≡ stepped_of (decode_of (get_or c.args.words.now c.loop-word.word-index 0)) c.args.l c.loop-word.file c.loop-word.carried)
+    × (c.step_word.new.file ≡ file_after (decode_of (get_or c.args.words.now c.loop-word.word-index 0)) c.args.l c.loop-word.file)
+stepped c =
+    subst (λ (l : ℕ). (c.step_word.result ≡ stepped_of (decode_of (get_or c.args.words.now c.loop-word.word-index 0)) l c.loop-word.file c.loop-word.carried)
+    × (c.step_word.new.file ≡ file_after (decode_of (get_or c.args.words.now c.loop-word.word-index 0)) l c.loop-word.file)) c.new-layout.ensures c.step_word.ensures
 
-pub step_word-stepped-requires : goal.step_word-stepped-requires
-step_word-stepped-requires c = record { held = record { ok = c.requires.held.ok; sized = c.loop-i.invariant.sized }; starts = c.starts-starts.ensures; done_bound = omega (arith, c.loop-i.invariant.counted, c.loop-i.invariant.bound, c.requires.words_len_bound, c.loop-i-test.true) }
+pub returns-in-Err : goal.returns-in-Err
+returns-in-Err c = let a = c.args in
+    words-stop a.l a.words.now (start a.file.now a.qc) c.loop-word.file c.loop-word.carried c.loop-word.word-index c.loop-word.invariant
+    c.loop-word-test.true c.in-Err.ran c.step_word.result _ (stepped (goal.at.returns-in-Err c).After-step_word) c.in-Err.is
 
-pub shape_of-file-in-Stopped : goal.shape_of-file-in-Stopped
-shape_of-file-in-Stopped c = let a = c.args in
-    c.step_word-stepped.auto.file ∙ c.loop-i.invariant.sized ∙ sym c.requires.held.sized
-
-pub returns-in-Stopped : goal.returns-in-Stopped
-returns-in-Stopped c = let a = c.args in
-    words-stop a.l a.words.now (start a.file.now a.qc) c.loop-i.file c.loop-i.carried c.loop-i.i c.loop-i.invariant
-    c.loop-i-test.true c.in-Stopped.ran c.step_word-stepped.result _ c.step_word-stepped.ensures
-    c.in-Stopped.is
-
-pub loop-i-preserved : goal.loop-i-preserved
-loop-i-preserved c = let a = c.args in
-    words-on a.l a.words.now (start a.file.now a.qc) c.loop-i.file c.loop-i.carried c.loop-i.i c.loop-i.invariant
-    c.loop-i-test.true c.in-Next.next c.step_word-stepped.result _ c.step_word-stepped.ensures c.in-Next.is
-
-pub shape_of-file : goal.shape_of-file
-shape_of-file c = c.loop-i.invariant.sized ∙ sym c.requires.held.sized
+pub loop-word-preserved : goal.loop-word-preserved
+loop-word-preserved c = let a = c.args in
+    words-on a.l a.words.now (start a.file.now a.qc) c.loop-word.file c.loop-word.carried c.loop-word.word-index c.loop-word.invariant
+    c.loop-word-test.true c.in-Ok.next c.step_word.result _ (stepped (goal.at.loop-word-preserved c).After-step_word) c.in-Ok.is
 
 pub returns : goal.returns
 returns c = let a = c.args in
-    words-end a.l a.words.now (start a.file.now a.qc) c.loop-i.file c.loop-i.carried c.loop-i.i c.loop-i.invariant c.loop-i-test.false c.ran.result c.ran.ensures
+    words-end a.l a.words.now (start a.file.now a.qc) c.loop-word.file c.loop-word.carried c.loop-word.word-index c.loop-word.invariant c.loop-word-test.false c.ran.result c.ran.ensures

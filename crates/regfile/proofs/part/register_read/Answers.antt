@@ -3,4 +3,4 @@ use mathlib.Core.Path.{refl}
 use Rattle.regfile.proofs.part.register_read.Goals as goal
 
 pub returns : goal.returns
-returns c = c.part_of-s.ensures.part c.args.file.now refl
+returns c = c.part_of-part.ensures.part c.args.file.now refl

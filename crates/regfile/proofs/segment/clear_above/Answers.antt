@@ -1,50 +1,29 @@
 use native.Mathlib.Omega.{arith}
-use Prim.Native.Nat.{◌+◌, ◌≤◌}
-use lib.ListN.{length}
+use lib.ListN.{replicate}
+use Prim.Native.Nat.{◌+◌, ◌*◌, ◌%◌}
+use mathlib.Core.Path.{◌≡◌, refl, subst}
+use Rattle.isa.proofs.File.{legal-exact}
 use Rattle.isa.proofs.Made.{all_same}
-use Rattle.regfile.proofs.Sweep.{clear-starts, clear_room, clear-on, clear-ends}
+use Rattle.regfile.specs.Bytes.{Stored}
+use Rattle.regfile.proofs.Sweep.{Clearing, clear-starts, clear-on, clear-ends}
 use Rattle.regfile.proofs.segment.clear_above.Goals as goal
 
-pub loop-q-init : goal.loop-q-init
-loop-q-init c = let a = c.args in clear-starts a.l a.d a.file.now c.requires.held _ (omega arith)
+pub loop-k-init : goal.loop-k-init
+loop-k-init c = let a = c.args in clear-starts a.l a.d a.file.now c.requires.held 16 refl
 
-pub overflow_add-d : goal.overflow_add-d
-overflow_add-d c =
-    let room : let g = c.loop-q in
-    (c.args.d + g.q + 16 ≤ length g.file) × (length g.file ≤ 8192) = let a = c.args in
-    let g = c.loop-q in
-    clear_room a.l a.d a.file.now c.requires.held g.file g.q g.invariant (omega (arith, g.invariant.bound, c.loop-q-test.true)) c.requires.l_bound in
-    let r = room in omega (arith, r.0, r.1)
-
-pub write16-requires : goal.write16-requires
-write16-requires c =
-    let room : let g = c.loop-q in
-    (c.args.d + g.q + 16 ≤ length g.file) × (length g.file ≤ 8192) = let a = c.args in
-    let g = c.loop-q in
-    clear_room a.l a.d a.file.now c.requires.held g.file g.q g.invariant (omega (arith, g.invariant.bound, c.loop-q-test.true)) c.requires.l_bound in
-    (room).0
-
-pub overflow_add-q : goal.overflow_add-q
-overflow_add-q c =
-    let room : let g = c.loop-q in
-    (c.args.d + g.q + 16 ≤ length g.file) × (length g.file ≤ 8192) = let a = c.args in
-    let g = c.loop-q in
-    clear_room a.l a.d a.file.now c.requires.held g.file g.q g.invariant (omega (arith, g.invariant.bound, c.loop-q-test.true)) c.requires.l_bound in
-    let r = room in omega (arith, r.0, r.1)
-
-pub loop-q-smaller : goal.loop-q-smaller
-loop-q-smaller c = omega (arith, c.loop-q.invariant.bound, c.loop-q-test.true)
-
-pub loop-q-preserved : goal.loop-q-preserved
-loop-q-preserved c = let g = c.loop-q in
+pub loop-k-preserved : goal.loop-k-preserved
+loop-k-preserved c =
     let a = c.args in
-    clear-on a.l a.d a.file.now c.requires.held g.file g.q g.invariant (omega (arith, g.invariant.bound, c.loop-q-test.true))
-    _ c.write16.new.s (all_same 0 16) c.write16.ensures
-
-pub shape_of-file : goal.shape_of-file
-shape_of-file c = c.loop-q.invariant.so_far.size
+    let i = c.loop-k in
+    let here : a.d + i.k * 16 % 18446744073709551616 ≡ a.d + 16 * i.k = omega arith in
+    let stored = subst (λ n. Stored i.file n 16 (replicate 16 0) c.write16.new.s) here c.write16.ensures in
+    let next : 16 * i.k + 16 ≡ 16 * (i.k + 1) = omega arith in
+    subst (Clearing a.l a.d a.file.now c.write16.new.s) next
+    (clear-on a.l a.d a.file.now c.requires.held i.file (16 * i.k) i.invariant (omega (arith, c.loop-k-test.true)) _ c.write16.new.s (all_same 0 16) stored)
 
 pub returns : goal.returns
-returns c = let g = c.loop-q in
+returns c =
     let a = c.args in
-    clear-ends a.l a.d a.file.now c.requires.held g.file g.q g.invariant (omega (arith, c.loop-q-test.false))
+    let i = c.loop-k in
+    let whole = ((legal-exact a.l).0 c.requires.held.ok).whole in
+    clear-ends a.l a.d a.file.now c.requires.held i.file (16 * i.k) i.invariant (omega (arith, c.loop-k-test.false, whole))

@@ -1,0 +1,9 @@
+-- `exec::step::add` meets its contract.
+use Rattle.exec.proofs.Operation.{add_executed}
+use Rattle.exec.proofs.step.add.Goals as goal
+
+pub returns : goal.returns
+returns g c =
+    let a = c.args in
+    let p = c.operands-at.ensures in
+    add_executed a.layout.now.l a.file.now c.requires.held _ _ _ _ a.a c.requires.valid p.dest p.first p.second _ c.sums.ensures
