@@ -7,8 +7,10 @@ ghost use Rattle.isa.specs.Stage.{crossed};
 
 use common::element::Saturated;
 use isa::types::{Form, Rotation, Size};
-use std::io;
-use std::io::{Read, Stdin, Stdout};
+use kernel::element::elements;
+use kernel::{indexed, vectors};
+use std::io::Read;
+use std::{fmt, io};
 
 // Nothing says that the input ends, so the loop counts the cases.
 const MOST: usize = 100000;
@@ -51,16 +53,16 @@ fn form_of(n: u8) -> Form {
     }
 }
 
-// ---- a kernel for each family and size
+// ---- a kernel for each family and size: a type parameter is no value that a closure could take, so each family has its own arms
 
 fn cadd(size: Size, rot: Rotation, c: [u8; 16], m: [u8; 16]) -> [u8; 16]
     requires { crossed rot ≡ true }
 {
     match size {
-        Size::B => kernel8::kernel::cadd(c, m, rot),
-        Size::H => kernel16::kernel::cadd(c, m, rot),
-        Size::S => kernel32::kernel::cadd(c, m, rot),
-        Size::D => kernel64::kernel::cadd(c, m, rot),
+        Size::B => vectors::cadd::<i8, 16>(c, m, rot),
+        Size::H => vectors::cadd::<i16, 8>(c, m, rot),
+        Size::S => vectors::cadd::<i32, 4>(c, m, rot),
+        Size::D => vectors::cadd::<i64, 2>(c, m, rot),
     }
 }
 
@@ -68,37 +70,37 @@ fn sqcadd(size: Size, rot: Rotation, c: [u8; 16], m: [u8; 16]) -> [u8; 16]
     requires { crossed rot ≡ true }
 {
     match size {
-        Size::B => kernel8::kernel::sqcadd(c, m, rot),
-        Size::H => kernel16::kernel::sqcadd(c, m, rot),
-        Size::S => kernel32::kernel::sqcadd(c, m, rot),
-        Size::D => kernel64::kernel::sqcadd(c, m, rot),
+        Size::B => vectors::sqcadd::<i8, 16>(c, m, rot),
+        Size::H => vectors::sqcadd::<i16, 8>(c, m, rot),
+        Size::S => vectors::sqcadd::<i32, 4>(c, m, rot),
+        Size::D => vectors::sqcadd::<i64, 2>(c, m, rot),
     }
 }
 
 fn cmla(size: Size, rot: Rotation, c: [u8; 16], n: [u8; 16], m: [u8; 16]) -> [u8; 16] {
     match size {
-        Size::B => kernel8::kernel::cmla(c, n, m, rot),
-        Size::H => kernel16::kernel::cmla(c, n, m, rot),
-        Size::S => kernel32::kernel::cmla(c, n, m, rot),
-        Size::D => kernel64::kernel::cmla(c, n, m, rot),
+        Size::B => vectors::cmla::<i8, 16>(c, n, m, rot),
+        Size::H => vectors::cmla::<i16, 8>(c, n, m, rot),
+        Size::S => vectors::cmla::<i32, 4>(c, n, m, rot),
+        Size::D => vectors::cmla::<i64, 2>(c, n, m, rot),
     }
 }
 
 fn sqrdcmlah(size: Size, rot: Rotation, c: [u8; 16], n: [u8; 16], m: [u8; 16]) -> [u8; 16] {
     match size {
-        Size::B => kernel8::kernel::sqrdcmlah(c, n, m, rot),
-        Size::H => kernel16::kernel::sqrdcmlah(c, n, m, rot),
-        Size::S => kernel32::kernel::sqrdcmlah(c, n, m, rot),
-        Size::D => kernel64::kernel::sqrdcmlah(c, n, m, rot),
+        Size::B => vectors::sqrdcmlah::<i8, 16>(c, n, m, rot),
+        Size::H => vectors::sqrdcmlah::<i16, 8>(c, n, m, rot),
+        Size::S => vectors::sqrdcmlah::<i32, 4>(c, n, m, rot),
+        Size::D => vectors::sqrdcmlah::<i64, 2>(c, n, m, rot),
     }
 }
 
 fn sqdmulh(size: Size, c: [u8; 16], m: [u8; 16]) -> [u8; 16] {
     match size {
-        Size::B => kernel8::kernel::sqdmulh(c, m),
-        Size::H => kernel16::kernel::sqdmulh(c, m),
-        Size::S => kernel32::kernel::sqdmulh(c, m),
-        Size::D => kernel64::kernel::sqdmulh(c, m),
+        Size::B => vectors::sqdmulh::<i8, 16>(c, m),
+        Size::H => vectors::sqdmulh::<i16, 8>(c, m),
+        Size::S => vectors::sqdmulh::<i32, 4>(c, m),
+        Size::D => vectors::sqdmulh::<i64, 2>(c, m),
     }
 }
 
@@ -113,8 +115,8 @@ fn cmla_indexed(
     m: [u8; 16],
 ) -> [u8; 16] {
     match size {
-        Size::H => kernel16::indexed::cmla_indexed(c, n, m, index, rot),
-        _ => kernel32::indexed::cmla_indexed(c, n, m, index, rot),
+        Size::H => indexed::cmla::<i16, 8>(c, n, m, index, rot),
+        _ => indexed::cmla::<i32, 4>(c, n, m, index, rot),
     }
 }
 
@@ -127,113 +129,132 @@ fn sqrdcmlah_indexed(
     m: [u8; 16],
 ) -> [u8; 16] {
     match size {
-        Size::H => kernel16::indexed::sqrdcmlah_indexed(c, n, m, index, rot),
-        _ => kernel32::indexed::sqrdcmlah_indexed(c, n, m, index, rot),
+        Size::H => indexed::sqrdcmlah::<i16, 8>(c, n, m, index, rot),
+        _ => indexed::sqrdcmlah::<i32, 4>(c, n, m, index, rot),
     }
 }
 
-fn sqrdmlah(
+// SQRDMLAH, or SQRDMLSH with `minus`.
+fn by_element(
     size: Size,
     form: Form,
     index: usize,
+    minus: bool,
     c: [u8; 16],
     n: [u8; 16],
     m: [u8; 16],
 ) -> Saturated {
     match size {
-        Size::H => kernel16::element::elements(c, n, m, index, form, false),
-        _ => kernel32::element::elements(c, n, m, index, form, false),
-    }
-}
-
-fn sqrdmlsh(
-    size: Size,
-    form: Form,
-    index: usize,
-    c: [u8; 16],
-    n: [u8; 16],
-    m: [u8; 16],
-) -> Saturated {
-    match size {
-        Size::H => kernel16::element::elements(c, n, m, index, form, true),
-        _ => kernel32::element::elements(c, n, m, index, form, true),
-    }
-}
-
-// ---- printing
-
-fn print_bytes(stdout: Stdout, b: [u8; 16]) -> io::Result<()> {
-    for i in 0..16 {
-        print_byte(stdout, b[i])?;
-    }
-    Ok(())
-}
-
-fn print_byte(stdout: Stdout, x: u8) -> io::Result<()> {
-    print!(stdout; "{x:02x}")
-}
-
-fn print_saturated(stdout: Stdout, s: Saturated) -> io::Result<()> {
-    let bytes = s.bytes;
-    print_bytes(stdout, bytes)?;
-    if s.clamped {
-        print!(stdout; " 1")
-    } else {
-        print!(stdout; " 0")
+        Size::H => elements::<i16, 8>(c, n, m, index, form, minus),
+        _ => elements::<i32, 4>(c, n, m, index, form, minus),
     }
 }
 
 // ---- cases
 
-fn wide(x: u8) -> usize {
-    x as usize
-}
-
-fn print_case(
-    stdout: Stdout,
-    head: [u8; 4],
+// The numbers that choose a kernel, and what it works.
+#[derive(Clone, Copy)]
+struct Case {
+    family: u8,
+    size: u8,
+    turns: u8,
+    index: u8,
     c: [u8; 16],
     n: [u8; 16],
     m: [u8; 16],
-) -> io::Result<()> {
-    let size = size_of(head[1]);
-    let rot = rotation_of(head[2]);
-    let form = form_of(head[2]);
-    let index = wide(head[3]);
-    match head[0] {
-        0 => print_bytes(stdout, cadd(size, add_rotation_of(head[2]), c, m))?,
-        1 => print_bytes(stdout, sqcadd(size, add_rotation_of(head[2]), c, m))?,
-        2 => print_bytes(stdout, cmla(size, rot, c, n, m))?,
-        3 => print_bytes(stdout, cmla_indexed(size, rot, index, c, n, m))?,
-        4 => print_bytes(stdout, sqrdcmlah(size, rot, c, n, m))?,
-        5 => print_bytes(stdout, sqrdcmlah_indexed(size, rot, index, c, n, m))?,
-        6 => print_saturated(stdout, sqrdmlah(size, form, index, c, n, m))?,
-        7 => print_saturated(stdout, sqrdmlsh(size, form, index, c, n, m))?,
-        _ => print_bytes(stdout, sqdmulh(size, c, m))?,
-    }
-    print!(stdout; "\n")
 }
 
-fn run_case(mut stdin: Stdin, stdout: Stdout) -> io::Result<bool> {
-    let mut head = [0u8; 4];
-    let mut c = [0u8; 16];
-    let mut n = [0u8; 16];
-    let mut m = [0u8; 16];
-    let read = stdin.read_exact(&mut head).is_ok()
-        && stdin.read_exact(&mut c).is_ok()
-        && stdin.read_exact(&mut n).is_ok()
-        && stdin.read_exact(&mut m).is_ok();
-    if read {
-        print_case(stdout, head, c, n, m)?;
-    }
-    Ok(read)
+// What came of a case: the bytes, and of a family by element whether a lane clamped.
+#[derive(Clone, Copy)]
+struct Worked {
+    bytes: [u8; 16],
+    clamped: Option<bool>,
 }
 
-fn main(rt: HostRuntime) -> io::Result<()> {
-    for _ in 0..MOST {
-        if !run_case(rt.stdin(), rt.stdout())? {
-            break;
+impl From<[u8; 16]> for Worked {
+    fn from(bytes: [u8; 16]) -> Self {
+        Worked {
+            bytes,
+            clamped: None,
         }
+    }
+}
+
+impl From<Saturated> for Worked {
+    fn from(saturated: Saturated) -> Self {
+        let bytes = saturated.bytes;
+        Worked {
+            bytes,
+            clamped: Some(saturated.clamped),
+        }
+    }
+}
+
+impl fmt::Display for Worked {
+    fn fmt<W: fmt::Write>(&self, f: &mut fmt::Formatter<W>) -> fmt::Result {
+        for b in &self.bytes {
+            write!(f, "{b:02x}")?;
+        }
+        match self.clamped {
+            None => Ok(()),
+            Some(true) => write!(f, " 1"),
+            Some(false) => write!(f, " 0"),
+        }
+    }
+}
+
+impl Case {
+    fn read<R: Read>(input: &mut R) -> io::Result<Self> {
+        let mut numbers = [0u8; 4];
+        let mut c = [0u8; 16];
+        let mut n = [0u8; 16];
+        let mut m = [0u8; 16];
+        input.read_exact(&mut numbers)?;
+        input.read_exact(&mut c)?;
+        input.read_exact(&mut n)?;
+        input.read_exact(&mut m)?;
+        let [family, size, turns, index] = numbers;
+        Ok(Case {
+            family,
+            size,
+            turns,
+            index,
+            c,
+            n,
+            m,
+        })
+    }
+
+    fn work(self) -> Worked {
+        let Case { c, n, m, .. } = self;
+        let size = size_of(self.size);
+        let rot = rotation_of(self.turns);
+        let add_rot = add_rotation_of(self.turns);
+        let form = form_of(self.turns);
+        let index = usize::from(self.index);
+        match self.family {
+            0 => cadd(size, add_rot, c, m).into(),
+            1 => sqcadd(size, add_rot, c, m).into(),
+            2 => cmla(size, rot, c, n, m).into(),
+            3 => cmla_indexed(size, rot, index, c, n, m).into(),
+            4 => sqrdcmlah(size, rot, c, n, m).into(),
+            5 => sqrdcmlah_indexed(size, rot, index, c, n, m).into(),
+            6 => by_element(size, form, index, false, c, n, m).into(),
+            7 => by_element(size, form, index, true, c, n, m).into(),
+            _ => sqdmulh(size, c, m).into(),
+        }
+    }
+}
+
+// The input ends with the first case that is not whole.
+fn main(rt: HostRuntime) -> io::Result<()> {
+    let mut stdin = rt.stdin();
+    for _ in 0..MOST {
+        let Ok(case) = Case::read(&mut stdin) else {
+            break;
+        };
+        let worked = case.work();
+        println!(rt; "{worked}")?;
     }
     Ok(())
 }

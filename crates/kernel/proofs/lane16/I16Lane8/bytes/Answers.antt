@@ -1,0 +1,34 @@
+use mathlib.Core.Path.{◌≡◌, refl, ap, ◌∙◌}
+use mathlib.Core.List.{List}
+use lib.ListN.{get_or}
+use Prim.Native.Nat.{ℕ, ◌+◌}
+use native.Mathlib.Omega.{arith}
+use mir.Syntax.{w16}
+use Rattle.std.specs.Int.{to_le_bytes}
+use Rattle.integer.specs.Number.{pattern}
+use Rattle.std.proofs.lemmas.List.{map-id}
+use Rattle.integer.proofs.Word.{kept}
+use Rattle.isa.specs.Register.{bits, bytes}
+use Rattle.isa.specs.Stage.{lane}
+use Rattle.isa.proofs.Made.{made_none, made_more, made_all, made_as}
+use Rattle.isa.proofs.Places.{byte_at, byte-first}
+use Rattle.kernel.proofs.lane16.I16Lane8.bytes.Goals as goal
+
+pub loop-e-init : goal.loop-e-init
+loop-e-init c = made_none refl
+
+pub loop-e-preserved : goal.loop-e-preserved
+loop-e-preserved c = let l = c.loop-e in
+    let s = c.args.s in
+    let u : c.to_bits.result ≡ pattern 16 (lane s l.e) = simp (kept w16 (lane s l.e) c.to_bits-arg-1.given) at c.to_bits.ensures in
+    let b : (j : ℕ) → get_or c.to_le_bytes-b.result j 0 ≡ get_or (to_le_bytes w16 c.to_bits.result) j 0 = λ j. ap (λ (t : List ℕ). get_or t j 0) c.to_le_bytes-b.ensures in
+    let k = l.e + l.e in
+    made_as (l.e + 1 + (l.e + 1))
+    (made_more (made_more l.invariant (omega arith) _ (b 0 ∙ byte-first 16 2 s l.e _ u k (omega arith) (omega arith))) (omega arith) _
+    (b 1 ∙ byte_at 16 2 s l.e _ u 1 (k + 1) (omega arith) (omega arith)))
+    (omega arith)
+
+pub returns : goal.returns
+unfolding bits bytes
+returns c = rw (map-id c.args.s)
+    record { sized = c.loop-e.invariant.sized; at = made_all c.loop-e.invariant (omega arith) }

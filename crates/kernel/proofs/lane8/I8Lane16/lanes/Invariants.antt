@@ -1,0 +1,14 @@
+-- `kernel::lane8::I8Lane16::lanes` meets its contract: after e turns the first e lanes are read.
+use Prim.Native.Nat.{◌-◌}
+use lib.IntN.{pos}
+use Rattle.isa.specs.declared.types.Size.TheVariants.{B}
+use Rattle.isa.specs.Register.{element}
+use Rattle.isa.specs.Segment.{bytes_of}
+use Rattle.isa.proofs.Made.{Made}
+use Rattle.kernel.proofs.lane8.I8Lane16.lanes.Given as goal
+
+abbrev pub invariant-loop-e : goal.invariant-loop-e
+invariant-loop-e l = Made (pos 0) 16 l.e (element B (bytes_of l.b)) l.r
+
+abbrev pub decreases-loop-e : goal.decreases-loop-e
+decreases-loop-e l = 16 - l.e

@@ -1,0 +1,3 @@
+pub mod Counts
+pub mod Wide
+pub mod Work

@@ -1,7 +1,0 @@
--- `kernel32::lane::high` meets its contract: the product divided by 2^31 is the doubled one divided by 2^32.
-use Rattle.integer.proofs.Widen.{wide32}
-use Rattle.integer.proofs.High.{read-high}
-use Rattle.kernel32.proofs.lane.high.Goals as goal
-
-pub returns : goal.returns
-returns c = search (read-high wide32)

@@ -1,2 +1,0 @@
-pub mod TwoWords
-pub mod Sum64
