@@ -1,20 +1,21 @@
 -- What the two calls answer, case by case. Assumes nothing.
-use mathlib.Core.Path.{◌≡◌, refl, sym, ap, ◌∙◌}
+use mathlib.Core.Path.{◌≡◌, sym, ap, ◌∙◌}
 use Prim.Native.Nat.{ℕ, ◌+◌, ◌*◌}
 use mathlib.Core.List.{List}
 use lib.ListN.{length}
 use borrow.Author.Tests.{eq-eqb, ne_eqb}
 use Rattle.isa.specs.declared.types.Op.{Op}
-use Rattle.fields.specs.declared.types.Named.{Named}
+use Rattle.std.specs.Prelude.{Option, Some, None}
 use Rattle.fields.specs.Fields.{fields_of}
 use Rattle.fields.specs.Named.{numbers_at, named_of}
-use Rattle.grammar.specs.declared.types.LineRead.{LineRead}
-use Rattle.grammar.specs.declared.types.LineWritten.{LineWritten}
+use Rattle.std.specs.Prelude.{Result, Ok}
+use Rattle.grammar.specs.declared.types.NotLine.{NotLine}
+use Rattle.grammar.specs.declared.types.LineRefusal.{LineRefusal}
 use Rattle.grammar.specs.Number.{line_read_number, line_read_length}
-use Rattle.grammar.specs.Read.{read_of}
-use Rattle.grammar.specs.Write.{LineOutcome, write_of}
-use Rattle.capi_lines.specs.Write.{WriteAnswer, line_packed, packed_line, named_line, write_call}
-use Rattle.capi_lines.specs.Read.{ReadAnswer, read_packed, fields_read, read_answer, read_call}
+use Rattle.grammar.specs.Read.{stops_at, read_of}
+use Rattle.grammar.specs.Write.{write_of}
+use Rattle.capi_lines.specs.Write.{line_packed, packed_line, named_line, write_call}
+use Rattle.capi_lines.specs.Read.{read_packed, fields_read, read_answer, read_call}
 
 -- ---- writing
 
@@ -28,14 +29,14 @@ module _ (fields out : List ℕ) where
     unfolding write_call
     write-eight = rw (eq-eqb (length fields) 8 eight)
 
-    pub write-nothing : named_of (numbers_at fields) ≡ Named.Nothing → record { answer = 33; out = out } ≡ write_call fields out
+    pub write-nothing : named_of (numbers_at fields) ≡ None → record { answer = 33; out = out } ≡ write_call fields out
     unfolding named_line
-    write-nothing e = ap (λ (n : Named). named_line n out) (sym e) ∙ write-eight
+    write-nothing e = ap (λ (n : Option Op). named_line n out) (sym e) ∙ write-eight
 
-    pub write-named : {op : Op} {w : LineWritten} {after : List ℕ} {r : ℕ} → named_of (numbers_at fields) ≡ Named.Operation op
+    pub write-named : {op : Op} {w : Result ℕ LineRefusal} {after : List ℕ} {r : ℕ} → named_of (numbers_at fields) ≡ Some op
         → record { answer = w; out = after } ≡ write_of op out → r ≡ line_packed w → record { answer = r; out = after } ≡ write_call fields out
     unfolding named_line
-    write-named {op} {w} {after} {r} e f g = rw g (ap packed_line f ∙ ap (λ (n : Named). named_line n out) (sym e) ∙ write-eight)
+    write-named {op} {w} {after} {r} e f g = rw g (ap packed_line f ∙ ap (λ (n : Option Op). named_line n out) (sym e) ∙ write-eight)
 
 -- ---- reading
 
@@ -49,11 +50,11 @@ module _ (line fields : List ℕ) where
     unfolding read_call
     read-eight = rw (eq-eqb (length fields) 8 eight)
 
-    pub read-operation : {op : Op} {after : List ℕ} → read_of line ≡ LineRead.Operation op → after ≡ fields_of op
+    pub read-operation : {op : Op} {after : List ℕ} → read_of line ≡ Ok op → after ≡ fields_of op
         → record { answer = 0; fields = after } ≡ read_call line fields
     unfolding read_packed fields_read line_read_number line_read_length
-    read-operation e f = rw f (ap (λ (a : LineRead). read_answer a fields) (sym e) ∙ read-eight)
+    read-operation e f = rw f (ap (λ (a : Result Op NotLine). read_answer a fields) (sym e) ∙ read-eight)
 
-    pub read-not-line : {k r : ℕ} → read_of line ≡ LineRead.NotLine k → r ≡ 12 + k * 0x1_0000_0000 → record { answer = r; fields = fields } ≡ read_call line fields
+    pub read-not-line : {k r : ℕ} → read_of line ≡ stops_at k → r ≡ 12 + k * 0x1_0000_0000 → record { answer = r; fields = fields } ≡ read_call line fields
     unfolding read_packed fields_read line_read_number line_read_length
-    read-not-line e f = rw f (ap (λ (a : LineRead). read_answer a fields) (sym e) ∙ read-eight)
+    read-not-line e f = rw f (ap (λ (a : Result Op NotLine). read_answer a fields) (sym e) ∙ read-eight)

@@ -9,51 +9,48 @@ use lib.Dec.{eqb}
 use lib.ListN.{length, take, drop}
 use borrow.Author.Tests.{eqb-true}
 use Rattle.isa.specs.declared.types.Op.{Op}
-use Rattle.fields.specs.declared.types.Named.{Named}
+use Rattle.std.specs.Prelude.{Option, Some, None}
 use Rattle.fields.specs.Fields.{fields_of, bad_part}
 use Rattle.fields.specs.Named.{numbers_at, named_of}
 use Rattle.fields.proofs.RoundTrip.{fields-named, fields-eight}
 use Rattle.fields.proofs.Back.{named-fields}
-use Rattle.grammar.specs.declared.types.LineRead.{LineRead}
-use Rattle.grammar.specs.declared.types.LineWritten.{LineWritten}
+use Rattle.std.specs.Prelude.{Result, Ok, Err}
+use Rattle.grammar.specs.declared.types.NotLine.{NotLine}
+use Rattle.grammar.specs.declared.types.LineRefusal.{LineRefusal}
 use Rattle.grammar.specs.Read.{read_of}
 use Rattle.grammar.specs.Number.{line_read_number, line_read_length, line_written_number, line_written_length}
-use Rattle.grammar.specs.Write.{LineOutcome, write_of}
+use Rattle.grammar.specs.Write.{write_of}
 use Rattle.grammar.proofs.Written.{read-written, write_read}
 use Rattle.capi_lines.specs.Write.{WriteAnswer, line_packed, packed_line, named_line, pick_write, write_call}
-use Rattle.capi_lines.specs.Read.{ReadAnswer, read_packed, fields_read, read_answer, pick_read, read_call}
+use Rattle.capi_lines.specs.Read.{read_packed, fields_read, read_answer, pick_read, read_call}
+use Rattle.capi_lines.proofs.Short.{refusal-number}
 use Rattle.capi_lines.proofs.Called.{write-eight, read-eight}
 
 -- ---- fields, line, fields
 
 -- the answer has KOB_DONE in its low half: a line was written, and the high half is its length
-written-done : (w : LineWritten) → line_packed w % 0x1_0000_0000 ≡ 0 → w ≡ LineWritten.Length (line_packed w / 0x1_0000_0000)
+written-done : (w : Result ℕ LineRefusal) → line_packed w % 0x1_0000_0000 ≡ 0 → w ≡ Ok (line_packed w / 0x1_0000_0000)
 unfolding line_packed line_written_length line_written_number
-written-done (LineWritten.Length n) h = ap LineWritten.Length (omega arith)
-written-done LineWritten.NoSize h = absurd (omega arith)
-written-done LineWritten.NoRotation h = absurd (omega arith)
-written-done LineWritten.RegisterLimit h = absurd (omega arith)
-written-done LineWritten.GroupStart h = absurd (omega arith)
-written-done LineWritten.IndexLimit h = absurd (omega arith)
-written-done LineWritten.Room h = absurd (omega arith)
+written-done (Ok n) h = ap Ok (omega arith)
+written-done (Err refusal) h = let n = refusal-number refusal in absurd (omega (arith, n.0, n.1))
 
 module _ (fields out into : List ℕ) (lent : length into ≡ 8) where
   abbrev Back : ℕ → List ℕ → Type 0
   Back n text = read_call (take n text) into ≡ record { answer = 0; fields = fields }
 
-  read_back : (op : Op) (n : ℕ) → (write_of op out).answer ≡ LineWritten.Length n → fields_of op ≡ fields → Back n (write_of op out).out
+  read_back : (op : Op) (n : ℕ) → (write_of op out).answer ≡ Ok n → fields_of op ≡ fields → Back n (write_of op out).out
   unfolding read_packed fields_read line_read_number line_read_length
   read_back op n e f =
       sym (read-eight (take n (write_of op out).out) into lent)
-      ∙ ap (λ (a : LineRead). read_answer a into) (read-written op out n e)
+      ∙ ap (λ (a : Result Op NotLine). read_answer a into) (read-written op out n e)
       ∙ ap (λ (l : List ℕ). record { answer = 0; fields = l }) f
 
-  by-named : (m : Named) → named_of (numbers_at fields) ≡ m → length fields ≡ 8 → (named_line m out).answer % 0x1_0000_0000 ≡ 0
+  by-named : (m : Option Op) → named_of (numbers_at fields) ≡ m → length fields ≡ 8 → (named_line m out).answer % 0x1_0000_0000 ≡ 0
       → Back ((named_line m out).answer / 0x1_0000_0000) (named_line m out).out
   unfolding named_line
-  by-named (Named.Operation op) e eight h =
+  by-named (Some op) e eight h =
       read_back op (line_packed (write_of op out).answer / 0x1_0000_0000) (written-done (write_of op out).answer h) (named-fields fields op eight e)
-  by-named Named.Nothing e eight h = absurd (omega arith)
+  by-named None e eight h = absurd (omega arith)
 
   by_length : (t : Bool) → eqb (length fields) 8 ≡ t → (pick_write t (named_line (named_of (numbers_at fields)) out) (record { answer = bad_part; out = out })).answer % 0x1_0000_0000 ≡ 0
       → Back ((pick_write t (named_line (named_of (numbers_at fields)) out) (record { answer = bad_part; out = out })).answer / 0x1_0000_0000)
@@ -75,19 +72,19 @@ module _ (line fields out : List ℕ) (room : length line ≤ length out) where
   abbrev Line : WriteAnswer
   Line = record { answer = length line * 0x1_0000_0000; out = line ++ drop (length line) out }
 
-  line-written : (op : Op) → read_of line ≡ LineRead.Operation op → write_call (fields_of op) out ≡ Line
+  line-written : (op : Op) → read_of line ≡ Ok op → write_call (fields_of op) out ≡ Line
   unfolding named_line line_packed line_written_length line_written_number
   line-written op e =
       sym (write-eight (fields_of op) out (fields-eight op))
-      ∙ ap (λ (n : Named). named_line n out) (fields-named op)
+      ∙ ap (λ (n : Option Op). named_line n out) (fields-named op)
       ∙ ap packed_line (write_read line op out e room)
       ∙ ap (λ (n : ℕ). record { answer = n; out = line ++ drop (length line) out }) (zero-plus (length line * 0x1_0000_0000))
 
-  picked : (t : Bool) (a : LineRead) → read_of line ≡ a → (pick_read t (read_answer a fields) (record { answer = bad_part; fields = fields })).answer ≡ 0
+  picked : (t : Bool) (a : Result Op NotLine) → read_of line ≡ a → (pick_read t (read_answer a fields) (record { answer = bad_part; fields = fields })).answer ≡ 0
       → write_call (pick_read t (read_answer a fields) (record { answer = bad_part; fields = fields })).fields out ≡ Line
   unfolding read_packed fields_read line_read_number line_read_length
-  picked true (LineRead.Operation op) e h = line-written op e
-  picked true (LineRead.NotLine k) e h = absurd (omega arith)
+  picked true (Ok op) e h = line-written op e
+  picked true (Err k) e h = absurd (omega arith)
   picked false a e h = absurd (omega arith)
 
   pub read-then-write : (read_call line fields).answer ≡ 0 → write_call (read_call line fields).fields out ≡ record { answer = length line * 0x1_0000_0000; out = line ++ drop (length line) out }

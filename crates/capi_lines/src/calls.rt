@@ -5,9 +5,8 @@ ghost use Rattle.grammar.specs.Number.{line_written_length};
 ghost use Rattle.capi_lines.specs.Write.{line_packed, write_call};
 ghost use Rattle.capi_lines.specs.Read.{read_call};
 
-use fields::types::Named;
 use fields::{fields_of, named_by, put_fields, read_numbers};
-use grammar::types::{LineRead, LineWritten};
+use grammar::types::LineRefusal;
 use line_reader::read_line;
 use line_writer::write_line;
 
@@ -18,18 +17,14 @@ const BAD_FIELDS: u64 = 32;
 const NO_OPERATION: u64 = 33;
 
 // The number in the low half, the line's length in the high half.
-fn packed(written: LineWritten) -> u64
+#[tactic(auto, unfolding(crate::specs::Write::line_packed, grammar::specs::Number::line_written_number, grammar::specs::Number::line_written_length))]
+fn packed(written: Result<usize, LineRefusal>) -> u64
     requires { line_written_length written ≤ line_max }
     ensures { result ≡ line_packed written }
 {
     match written {
-        LineWritten::Length(n) => (n as u64) << 32,
-        LineWritten::NoSize => 7,
-        LineWritten::NoRotation => 8,
-        LineWritten::RegisterLimit => 9,
-        LineWritten::GroupStart => 14,
-        LineWritten::IndexLimit => 10,
-        LineWritten::Room => 13,
+        Ok(n) => (n as u64) << 32,
+        Err(refusal) => refusal.number() as u64,
     }
 }
 
@@ -41,10 +36,9 @@ pub extern "C" fn kob_line_write(fields: &[u32], out: &mut [u8]) -> u64
     if fields.len() != FIELDS {
         return BAD_FIELDS;
     }
-    let named = named_by(read_numbers(fields));
-    match named {
-        Named::Operation(op) => packed(write_line(op, out)),
-        Named::Nothing => NO_OPERATION,
+    match named_by(read_numbers(fields)) {
+        Some(op) => packed(write_line(op, out)),
+        None => NO_OPERATION,
     }
 }
 
@@ -56,12 +50,11 @@ pub extern "C" fn kob_line_read(line: &[u8], fields: &mut [u32]) -> u64
     if fields.len() != FIELDS {
         return BAD_FIELDS;
     }
-    let read = read_line(line);
-    match read {
-        LineRead::Operation(op) => {
+    match read_line(line) {
+        Ok(op) => {
             put_fields(fields, fields_of(op));
             0
         }
-        LineRead::NotLine(reach) => 12 + ((reach as u64) << 32),
+        Err(refusal) => 12 + ((refusal.reach as u64) << 32),
     }
 }

@@ -9,13 +9,15 @@ use native.Mathlib.Omega.{arith}
 use lib.ListN.{length, get_or, take, drop}
 use lib.Seq.{take-length}
 use Rattle.isa.specs.declared.types.Op.{Op}
-use Rattle.grammar.specs.declared.types.LineRead.{LineRead}
+use Rattle.std.specs.Prelude.{Result, Ok, Err}
+use Rattle.grammar.specs.declared.types.NotLine.{NotLine}
 use Rattle.grammar.specs.Template.{fill}
 use Rattle.grammar.specs.Follow.{common_prefix, follow}
 use Rattle.grammar.specs.Search.{Search, read, unread, blank, search}
 use Rattle.grammar.specs.Grammar.{variables, templates, pattern_count, pattern_of, values_of, line_of}
 use Rattle.grammar.specs.Line.{LineOf, Begins, NoLine}
-use Rattle.grammar.specs.Read.{make_at, read_as, read_of}
+use Rattle.grammar.specs.Read.{make_at, stops_at, read_as, read_of}
+use Rattle.grammar.specs.Number.{line_read_length}
 use Rattle.grammar.proofs.Prefix.{common-le-right, common-take, common-begins}
 use Rattle.grammar.proofs.Follow.{Made, lower, upper, sound}
 use Rattle.grammar.proofs.Search.{found-is, Unread, unread-is, finds, clear_at, filled-good, blank-agrees, blank-partly}
@@ -32,37 +34,38 @@ made-line p r s h m =
 
 -- ---- what is read as an operation is its line
 
-same_op : (a b : Op) → LineRead.Operation a ≡ LineRead.Operation b → a ≡ b
+same_op : (a b : Op) → ◌≡◌ {A = Result Op NotLine} (Ok a) (Ok b) → a ≡ b
 same_op a b e = cc
 
-same_length : (a b : ℕ) → LineRead.NotLine a ≡ LineRead.NotLine b → a ≡ b
-same_length a b e = cc
+same_length : (a b : ℕ) → stops_at a ≡ stops_at b → a ≡ b
+unfolding line_read_length
+same_length a b e = ap line_read_length e
 
-not-operation : (a : Op) (k : ℕ) → LineRead.Operation a ≡ LineRead.NotLine k → ⊥
+not-operation : (a : Op) (k : ℕ) → ◌≡◌ {A = Result Op NotLine} (Ok a) (stops_at k) → ⊥
 not-operation a k e = let z : ◌≡◌ {A = ℕ} 0 1 = cc in omega arith
 
-line-of-read : (s : List ℕ) (op : Op) (a : Search) → search variables templates s 0 0 ≡ a → read_as a ≡ LineRead.Operation op → LineOf op s
+line-of-read : (s : List ℕ) (op : Op) (a : Search) → search variables templates s 0 0 ≡ a → read_as a ≡ Ok op → LineOf op s
 line-of-read s op (read i r) e h =
     let f = found-is variables most readable templates s 0 0 i r e in
     let q : i ≡ f.place = f.here ∙ omega arith in
     subst (λ (x : Op). LineOf x s) (ap (λ (j : ℕ). make_at j r) (sym q) ∙ same_op _ op h) (made-line f.place r s f.within f.made)
 line-of-read s op (unread k) e h = absurd (not-operation op k (sym h))
 
-read-of-line : (s : List ℕ) (op : Op) → LineOf op s → read_of s ≡ LineRead.Operation op
+read-of-line : (s : List ℕ) (op : Op) → LineOf op s → read_of s ≡ Ok op
 unfolding read_of line_of
 read-of-line s op l =
     let m = remakes op l.writable in
     let f = finds variables most readable templates s 0 0 (pattern_of op) (values_of op) templates-clear templates-apart m.within m.good l.text in
     let z : 0 + pattern_of op ≡ pattern_of op = omega arith in
-    ap read_as f.is ∙ ap (λ (j : ℕ). LineRead.Operation (make_at j f.values)) z ∙ ap LineRead.Operation (m.again f.values f.agrees f.made.filled)
+    ap read_as f.is ∙ ap (λ (j : ℕ). Ok (make_at j f.values)) z ∙ ap Ok (m.again f.values f.agrees f.made.filled)
 
 -- a pattern that has a text whole is the one that it is read by
-pub read-by-pattern : (p : ℕ) (s : List ℕ) → p < pattern_count → (follow variables (get_or templates p []) blank s).whole ≡ true → read_of s ≡ LineRead.Operation (make_at p (follow variables (get_or templates p []) blank s).values)
+pub read-by-pattern : (p : ℕ) (s : List ℕ) → p < pattern_count → (follow variables (get_or templates p []) blank s).whole ≡ true → read_of s ≡ Ok (make_at p (follow variables (get_or templates p []) blank s).values)
 read-by-pattern p s h w =
     read-of-line s (make_at p (follow variables (get_or templates p []) blank s).values)
     (made-line p (follow variables (get_or templates p []) blank s).values s h (sound variables most readable (get_or templates p []) blank s (blank-partly most) w))
 
-pub line-exact : (s : List ℕ) (op : Op) → (read_of s ≡ LineRead.Operation op → LineOf op s) × (LineOf op s → read_of s ≡ LineRead.Operation op)
+pub line-exact : (s : List ℕ) (op : Op) → (read_of s ≡ Ok op → LineOf op s) × (LineOf op s → read_of s ≡ Ok op)
 unfolding read_of
 line-exact s op = (line-of-read s op (search variables templates s 0 0) refl, read-of-line s op)
 
@@ -118,7 +121,7 @@ no_line s k u none =
     })
     u.met
 
-no-line-of-read : (s : List ℕ) (k : ℕ) (a : Search) → search variables templates s 0 0 ≡ a → read_as a ≡ LineRead.NotLine k → NoLine s k
+no-line-of-read : (s : List ℕ) (k : ℕ) (a : Search) → search variables templates s 0 0 ≡ a → read_as a ≡ stops_at k → NoLine s k
 unfolding read_of
 no-line-of-read s k (read i r) e h = absurd (not-operation _ k h)
 no-line-of-read s k (unread n) e h =
@@ -129,22 +132,22 @@ no-line-of-read s k (unread n) e h =
 longest-once : (s : List ℕ) (k n : ℕ) → NoLine s k → NoLine s n → k ≡ n
 longest-once s k n a b = omega (arith, a.longest n b.within b.begins, b.longest k a.within a.begins)
 
-read-of-no-line : (s : List ℕ) (k : ℕ) → NoLine s k → (a : LineRead) → read_of s ≡ a → read_of s ≡ LineRead.NotLine k
+read-of-no-line : (s : List ℕ) (k : ℕ) → NoLine s k → (a : Result Op NotLine) → read_of s ≡ a → read_of s ≡ stops_at k
 unfolding read_of
-read-of-no-line s k n (LineRead.Operation op) e = absurd (n.none op ((line-exact s op).0 e))
-read-of-no-line s k n (LineRead.NotLine m) e = e ∙ ap LineRead.NotLine (longest-once s m k (no-line-of-read s m (search variables templates s 0 0) refl e) n)
+read-of-no-line s k n (Ok op) e = absurd (n.none op ((line-exact s op).0 e))
+read-of-no-line s k n (Err m) e = e ∙ ap stops_at (longest-once s m.reach k (no-line-of-read s m.reach (search variables templates s 0 0) refl e) n)
 
-pub longest : (s : List ℕ) (k : ℕ) → (read_of s ≡ LineRead.NotLine k → NoLine s k) × (NoLine s k → read_of s ≡ LineRead.NotLine k)
+pub longest : (s : List ℕ) (k : ℕ) → (read_of s ≡ stops_at k → NoLine s k) × (NoLine s k → read_of s ≡ stops_at k)
 unfolding read_of
 longest s k = (no-line-of-read s k (search variables templates s 0 0) refl, (λ n. read-of-no-line s k n (read_of s) refl))
 
 -- ---- a line that is cut off, and no text at all
 
-pub cut_off : (s : List ℕ) → Begins s → ((op : Op) → LineOf op s → ⊥) → read_of s ≡ LineRead.NotLine (length s)
+pub cut_off : (s : List ℕ) → Begins s → ((op : Op) → LineOf op s → ⊥) → read_of s ≡ stops_at (length s)
 cut_off s b none =
     (longest s (length s)).1
     (record { none = none; within = omega arith; begins = subst Begins (sym (take-length s)) b; longest = λ j h c. h })
 
-pub empty-line : read_of [] ≡ LineRead.NotLine 0
+pub empty-line : read_of [] ≡ stops_at 0
 unfolding read_of search follow variables common_prefix
 empty-line = refl

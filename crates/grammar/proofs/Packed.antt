@@ -1,7 +1,8 @@
 -- The code's tables hold the alphabet, and the digits that the code looks at give the number that is meant. Assumes nothing.
 use Prim.Native.Nat.{ℕ, zero, suc, ◌+◌, ◌-◌, ◌*◌, ◌/◌, ◌%◌, ◌^◌, ◌≤◌, ◌<◌}
 use mathlib.Core.Path.{◌≡◌, refl, sym, ap, ◌∙◌, subst}
-use mathlib.Core.Bool.{Bool, true, false, ◌&&◌, ◌||◌}
+use mathlib.Core.Bool.{Bool, true, false, ◌&&◌}
+use Rattle.std.specs.Prelude.{cond, Option, Some, None}
 use mathlib.Core.List.{List, [], ◌∷◌, map}
 use native.Mathlib.Omega.{arith}
 use native.Mathlib.Nat.{zero-add}
@@ -11,7 +12,7 @@ use lib.Dec.{eqb, leb, ltb}
 use lib.ListN.{length, get_or, drop, drop_of_length-le}
 use lib.Seq.{drop-cons}
 use Rattle.grammar.specs.Template.{Choices, numbers, texts, decimal, text_of, count, pick_number}
-use Rattle.grammar.specs.Follow.{is_digit, place_of, place_of_tens, found, tens, one_digit, two_digits, guess_number, starting_with, guess_text, guess, unset, common_prefix}
+use Rattle.grammar.specs.Follow.{is_digit, place_of, place_of_tens, found, tens, one_digit, two_digits, guess_number, starting_with, guess_text, guess, common_prefix}
 use Rattle.grammar.specs.Grammar.{progression, below, unused, alphabet, letter_count}
 use Rattle.grammar.specs.Packed.{unpack, text_bytes, RowOf, Row, first_of, shift_of, count_of, packed_texts, numbers_of, texts_of, digit_of, placed, placed_two}
 use Rattle.grammar.proofs.Prefix.{common-same, common-other, common-none, common-nil}
@@ -40,122 +41,124 @@ digit_low b h =
 
 -- ---- the digits that the code looks at
 
-pub digit-past : (s : List ℕ) (at : ℕ) → length s ≤ at → digit_of (drop at s) ≡ 10
+pub digit-past : (s : List ℕ) (at : ℕ) → length s ≤ at → digit_of (drop at s) ≡ None
 unfolding digit_of
 digit-past s at h = rw (drop_of_length-le s h)
 
-digit-here : (s : List ℕ) (at : ℕ) → at < length s → digit_of (drop at s) ≡ pick_number (is_digit (get_or s at 0)) (get_or s at 0 - 48) 10
+digit-here : (s : List ℕ) (at : ℕ) → at < length s → digit_of (drop at s) ≡ cond (is_digit (get_or s at 0)) (Some (get_or s at 0 - 48)) None
 unfolding digit_of
 digit-here s at h = rw (drop-cons s at 0 h)
 
-pub digit-below : (s : List ℕ) (at : ℕ) → at < length s → get_or s at 0 < 48 → digit_of (drop at s) ≡ 10
+pub digit-below : (s : List ℕ) (at : ℕ) → at < length s → get_or s at 0 < 48 → digit_of (drop at s) ≡ None
 digit-below s at h k = digit-here s at h ∙ rw (lt-leb 48 (get_or s at 0) k)
 
-pub digit-above : (s : List ℕ) (at : ℕ) → at < length s → 57 < get_or s at 0 → digit_of (drop at s) ≡ 10
+pub digit-above : (s : List ℕ) (at : ℕ) → at < length s → 57 < get_or s at 0 → digit_of (drop at s) ≡ None
 digit-above s at h k = digit-here s at h ∙ rw (le-leb 48 (get_or s at 0) (omega arith), lt-leb (get_or s at 0) 57 k)
 
-pub digit-there : (s : List ℕ) (at : ℕ) → at < length s → 48 ≤ get_or s at 0 → get_or s at 0 ≤ 57 → digit_of (drop at s) ≡ get_or s at 0 - 48
+pub digit-there : (s : List ℕ) (at : ℕ) → at < length s → 48 ≤ get_or s at 0 → get_or s at 0 ≤ 57 → digit_of (drop at s) ≡ Some (get_or s at 0 - 48)
 digit-there s at h k l = digit-here s at h ∙ rw (le-leb 48 (get_or s at 0) k, le-leb (get_or s at 0) 57 l)
 
-module _ (ns : List ℕ) (f : ℕ) (u : List ℕ) where
-  either : (t : Bool) (m : ℕ) → pick_number (t || true) unset m ≡ unset
-  either true m = refl
-  either false m = refl
+some-same : (a b : ℕ) → Some a ≡ Some b → a ≡ b
+some-same a b e = cc
 
-  pub two-zero : f ≡ 0 → unset ≡ placed_two ns f u
+some_none : (a : ℕ) → Some a ≡ None → ⊥
+some_none a e = cc
+
+module _ (ns : List ℕ) (f : ℕ) (u : List ℕ) where
+  abbrev none : Option ℕ
+  none = None
+
+  either : (t : Bool) → cond t none none ≡ none
+  either true = refl
+  either false = refl
+
+  pub two-zero : f ≡ 0 → None ≡ placed_two ns f u
   unfolding placed_two
   two-zero h = sym (rw (eq-eqb f 0 h))
 
-  pub two_none : digit_of u ≡ 10 → unset ≡ placed_two ns f u
+  pub two_none : digit_of u ≡ None → None ≡ placed_two ns f u
   unfolding placed_two
-  two_none h = sym (rw (eq-eqb (digit_of u) 10 h) (either (eqb f 0) _))
+  two_none h = sym (rw h (either (eqb f 0)))
 
-  pub two-placed : (e : ℕ) → e ≡ digit_of u → (f ≡ 0 → ⊥) → (e ≡ 10 → ⊥) → placed (f * 10 + e) ns ≡ placed_two ns f u
+  pub two-placed : (e : ℕ) → digit_of u ≡ Some e → (f ≡ 0 → ⊥) → placed (f * 10 + e) ns ≡ placed_two ns f u
   unfolding placed_two
-  two-placed e h n m = ap (λ (z : ℕ). placed (f * 10 + z) ns) h ∙ sym (rw (ne_eqb f 0 n, ne_eqb (digit_of u) 10 (λ z. m (h ∙ z))))
+  two-placed e h n = sym (rw (ne_eqb f 0 n, h))
 
 -- ---- the number that digits mean
 
 module _ (ns : List ℕ) where
-  pub placed-there : (m : ℕ) → place_of m ns < length ns → placed m ns ≡ place_of m ns
+  pub placed-there : (m : ℕ) → place_of m ns < length ns → placed m ns ≡ Some (place_of m ns)
   unfolding placed
   placed-there m h = rw (lt-ltb (place_of m ns) (length ns) h)
 
-  pub placed-not : (m : ℕ) → length ns ≤ place_of m ns → placed m ns ≡ unset
+  pub placed-not : (m : ℕ) → length ns ≤ place_of m ns → placed m ns ≡ None
   unfolding placed
   placed-not m h = rw (le-ltb (place_of m ns) (length ns) h)
 
   -- a number that is placed is there
-  found-placed : (m : ℕ) → (placed m ns ≡ unset → ⊥) → found (place_of m ns) ns ≡ true
-  found-placed m n =
+  found-placed : (m v : ℕ) → placed m ns ≡ Some v → (found (place_of m ns) ns ≡ true) × (v ≡ place_of m ns)
+  found-placed m v e =
       elim (dec_le (suc (place_of m ns)) (length ns)) [
-        | yes h ↦ lt-ltb (place_of m ns) (length ns) h
-        | no h ↦ absurd (n (placed-not m (omega arith)))
+        | yes h ↦ (lt-ltb (place_of m ns) (length ns) h, some-same v (place_of m ns) (sym e ∙ placed-there m h))
+        | no h ↦ absurd (some_none v (sym e ∙ placed-not m (omega arith)))
       ]
 
-  not_found : (m : ℕ) → length ns ≤ unset → placed m ns ≡ unset → found (place_of m ns) ns ≡ false
-  not_found m few e =
+  not_found : (m : ℕ) → placed m ns ≡ None → found (place_of m ns) ns ≡ false
+  not_found m e =
       elim (dec_le (suc (place_of m ns)) (length ns)) [
-        | yes h ↦ absurd (omega (arith, placed-there m h))
+        | yes h ↦ absurd (some_none (place_of m ns) (sym (placed-there m h) ∙ e))
         | no h ↦ le-ltb (place_of m ns) (length ns) (omega arith)
       ]
 
   -- the first digit
-  number-first : (u : List ℕ) (f : ℕ) → f ≡ digit_of u → (f ≡ 10 → ⊥) → (guess_number ns u ≡ two_digits ns f (drop 1 u)) × (get_or u 0 0 ≡ 48 + f) × (f ≤ 9)
+  number-first : (u : List ℕ) (f : ℕ) → digit_of u ≡ Some f → (guess_number ns u ≡ two_digits ns f (drop 1 u)) × (get_or u 0 0 ≡ 48 + f) × (f ≤ 9)
   unfolding guess_number digit_of
-  number-first [] f e n = absurd (n e)
-  number-first (b ∷ u) f e n = go (is_digit b) refl
+  number-first [] f e = absurd (some_none f (sym e))
+  number-first (b ∷ u) f e = go (is_digit b) refl
     where
       go : (t : Bool) → is_digit b ≡ t → (guess_number ns (b ∷ u) ≡ two_digits ns f u) × (b ≡ 48 + f) × (f ≤ 9)
       go true t =
           let d = digit_low b t in
-          let z : f ≡ b - 48 = e ∙ rw t in
+          let z : f ≡ b - 48 = some-same f (b - 48) (sym e ∙ rw t) in
           (rw (t, z), omega (arith, d.0), omega (arith, d.1))
-      go false t = absurd (n (e ∙ rw t))
+      go false t = absurd (some_none f (sym e ∙ rw t))
 
-  pub number-none : (u : List ℕ) → digit_of u ≡ 10 → 0 ≡ guess_number ns u
+  pub number-none : (u : List ℕ) → digit_of u ≡ None → 0 ≡ guess_number ns u
   unfolding guess_number digit_of
   number-none [] e = refl
   number-none (b ∷ u) e = go (is_digit b) refl
     where
       go : (t : Bool) → is_digit b ≡ t → 0 ≡ guess_number ns (b ∷ u)
-      go true t =
-          let d = digit_low b t in
-          let z : b - 48 ≡ 10 = sym (rw t) ∙ e in
-          absurd (omega (arith, d.0, d.1))
+      go true t = absurd (some_none (b - 48) (sym (rw t) ∙ e))
       go false t = sym (rw t)
 
   -- the second
-  second_none : (f : ℕ) (u : List ℕ) → placed_two ns f u ≡ unset → length ns ≤ unset → two_digits ns f u ≡ one_digit ns f
-  unfolding two_digits placed_two digit_of
-  second_none f [] e few = refl
-  second_none f (b ∷ u) e few = go (is_digit b) refl
+  second_none : (f : ℕ) (u : List ℕ) → placed_two ns f u ≡ None → two_digits ns f u ≡ one_digit ns f
+  unfolding two_digits digit_of
+  second_none f [] e = refl
+  second_none f (b ∷ u) e = go (is_digit b) refl
     where
       go : (t : Bool) → is_digit b ≡ t → two_digits ns f (b ∷ u) ≡ one_digit ns f
       go false t = rw t
       go true t =
-          let d = digit_low b t in
-          let ten = ne_eqb (b - 48) 10 (λ z. omega (arith, d.0, d.1)) in
           elim (ℕ_discrete f 0) [
             | yes z ↦ rw (t, z)
-            | no z ↦ rw (t, le-leb 1 f (omega arith), not_found (f * 10 + (b - 48)) few (sym (rw (t, ne_eqb f 0 z, ten)) ∙ e))
+            | no z ↦ rw (t, le-leb 1 f (omega arith), not_found (f * 10 + (b - 48)) (two-placed ns f (b ∷ u) (b - 48) (rw t) z ∙ e))
           ]
 
-  second-there : (f : ℕ) (u : List ℕ) → (placed_two ns f u ≡ unset → ⊥) → placed_two ns f u ≡ two_digits ns f u
-  unfolding two_digits digit_of placed
-  second-there f [] n = absurd (n (sym (two_none ns f [] refl)))
-  second-there f (b ∷ u) n = go (is_digit b) refl
+  second-there : (f v : ℕ) (u : List ℕ) → placed_two ns f u ≡ Some v → v ≡ two_digits ns f u
+  unfolding two_digits digit_of
+  second-there f v [] e = absurd (some_none v (sym e ∙ sym (two_none ns f [] refl)))
+  second-there f v (b ∷ u) e = go (is_digit b) refl
     where
-      go : (t : Bool) → is_digit b ≡ t → placed_two ns f (b ∷ u) ≡ two_digits ns f (b ∷ u)
-      go false t = absurd (n (sym (two_none ns f (b ∷ u) (rw t))))
+      go : (t : Bool) → is_digit b ≡ t → v ≡ two_digits ns f (b ∷ u)
+      go false t = absurd (some_none v (sym e ∙ sym (two_none ns f (b ∷ u) (rw t))))
       go true t =
-          let d = digit_low b t in
           elim (ℕ_discrete f 0) [
-            | yes z ↦ absurd (n (sym (two-zero ns f (b ∷ u) z)))
+            | yes z ↦ absurd (some_none v (sym e ∙ sym (two-zero ns f (b ∷ u) z)))
             | no z ↦
-                let is : placed (f * 10 + (b - 48)) ns ≡ placed_two ns f (b ∷ u) = two-placed ns f (b ∷ u) (b - 48) (sym (rw t)) z (λ q. omega (arith, d.0, d.1)) in
-                let there = found-placed (f * 10 + (b - 48)) (λ q. n (sym is ∙ q)) in
-                sym is ∙ rw (t, le-leb 1 f (omega arith), there)
+                let there = found-placed (f * 10 + (b - 48)) v (two-placed ns f (b ∷ u) (b - 48) (rw t) z ∙ e) in
+                there.1 ∙ sym (rw (t, le-leb 1 f (omega arith), there.0))
           ]
 
 -- ---- a number that begins with a digit, and is not the digit alone
@@ -220,23 +223,25 @@ tens-starts ns (suc f) h = rw (le-leb 1 (suc f) (omega arith), starts-tens (suc 
 
 -- ---- what the code's tests give
 
-module _ (ns : List ℕ) (few : length ns ≤ unset) (u : List ℕ) (f : ℕ) (first : f ≡ digit_of u) (digit : f ≡ 10 → ⊥) where
-  pub number-two : (placed_two ns f (drop 1 u) ≡ unset → ⊥) → placed_two ns f (drop 1 u) ≡ guess_number ns u
-  number-two n = second-there ns f (drop 1 u) n ∙ sym (number-first ns u f first digit).0
+module _ (ns : List ℕ) (u : List ℕ) (f : ℕ) (first : digit_of u ≡ Some f) where
+  pub number-two : (v : ℕ) → placed_two ns f (drop 1 u) ≡ Some v → v ≡ guess_number ns u
+  number-two v e = second-there ns f v (drop 1 u) e ∙ sym (number-first ns u f first).0
 
-  module _ (two : placed_two ns f (drop 1 u) ≡ unset) where
+  module _ (two : placed_two ns f (drop 1 u) ≡ None) where
     one : guess_number ns u ≡ one_digit ns f
-    one = (number-first ns u f first digit).0 ∙ second_none ns f (drop 1 u) two few
+    one = (number-first ns u f first).0 ∙ second_none ns f (drop 1 u) two
 
-    pub number-one : (placed f ns ≡ unset → ⊥) → placed f ns ≡ guess_number ns u
-    unfolding one_digit placed
-    number-one n = sym (one ∙ rw (found-placed ns f n))
+    pub number-one : (v : ℕ) → placed f ns ≡ Some v → v ≡ guess_number ns u
+    unfolding one_digit
+    number-one v e =
+        let there = found-placed ns f v e in
+        there.1 ∙ sym (one ∙ rw there.0)
 
-    pub number-left : placed f ns ≡ unset → guess_text (map decimal ns) (get_or u 0 0 ∷ []) ≡ guess_number ns u
+    pub number-left : placed f ns ≡ None → guess_text (map decimal ns) (get_or u 0 0 ∷ []) ≡ guess_number ns u
     unfolding one_digit
     number-left e =
-        let there = not_found ns f few e in
-        ap (λ (b : ℕ). guess_text (map decimal ns) (b ∷ [])) (number-first ns u f first digit).1
+        let there = not_found ns f e in
+        ap (λ (b : ℕ). guess_text (map decimal ns) (b ∷ [])) (number-first ns u f first).1
         ∙ sym (one ∙ rw there (tens-starts ns f (ltb-false (place_of f ns) (length ns) there)))
 
 -- ---- the tables
@@ -388,7 +393,7 @@ module _ (x m : ℕ) (low : x < letter_count) (number : first_of x < 32) where
   abbrev step : ℕ
   step = 2 ^ shift_of x
 
-  abbrev pub Placed : ℕ → Type 0
+  abbrev pub Placed : Option ℕ → Type 0
   Placed r = r ≡ placed m (numbers_of (get_or alphabet x unused))
 
   the-numbers : numbers_of (get_or alphabet x unused) ≡ progression first step (count_of x)
@@ -397,7 +402,7 @@ module _ (x m : ℕ) (low : x < letter_count) (number : first_of x < 32) where
   each-once : once (progression first step (count_of x)) ≡ true
   each-once = (and-true (once (progression first step (count_of x))) _ (rw ((letter_at x low).number number) at (sound-letter x))).0
 
-  not_there : ((v : ℕ) → v < count_of x → m ≡ first + v * step → ⊥) → Placed unset
+  not_there : ((v : ℕ) → v < count_of x → m ≡ first + v * step → ⊥) → Placed None
   not_there n =
       let ns : List ℕ = progression first step (count_of x) in
       let many = progression-length first step (count_of x) in
@@ -407,23 +412,23 @@ module _ (x m : ℕ) (low : x < letter_count) (number : first_of x < 32) where
         | no h ↦ sym (placed-not ns m (omega arith))
       ])
 
-  pub place-low : m < first → Placed unset
+  pub place-low : m < first → Placed None
   place-low h = not_there (λ v k e. omega arith)
 
-  pub place-off : first ≤ m → m < 256 → ((m - first) / step * step % 256 ≡ m - first → ⊥) → Placed unset
+  pub place-off : first ≤ m → m < 256 → ((m - first) / step * step % 256 ≡ m - first → ⊥) → Placed None
   place-off h k n = not_there (λ v l e. steps-off (shift_of x) (m - first) v (shift_small x low) (omega arith) n (omega arith))
 
-  pub place-past : first ≤ m → count_of x ≤ (m - first) / step → Placed unset
+  pub place-past : first ≤ m → count_of x ≤ (m - first) / step → Placed None
   place-past h k = not_there (λ v l e. steps-past (shift_of x) (m - first) v (count_of x) (shift_small x low) k l (omega arith))
 
-  pub place_at : first ≤ m → m < 256 → (m - first) / step * step % 256 ≡ m - first → (m - first) / step < count_of x → Placed ((m - first) / step)
+  pub place_at : first ≤ m → m < 256 → (m - first) / step * step % 256 ≡ m - first → (m - first) / step < count_of x → Placed (Some ((m - first) / step))
   place_at h k e l =
       let v : ℕ = (m - first) / step in
       let ns : List ℕ = progression first step (count_of x) in
       let many = progression-length first step (count_of x) in
       let is : get_or ns v 0 ≡ m = progression-at first step (count_of x) v l ∙ omega (arith, steps_on (shift_of x) (m - first) (shift_small x low) (omega arith) e) in
       let at : place_of m ns ≡ v = rw is at (place_is ns each-once v (omega arith)) in
-      rw the-numbers (sym (placed-there ns m (omega arith) ∙ at))
+      rw the-numbers (sym (placed-there ns m (omega arith) ∙ ap Some at))
 
 -- ---- texts by their first byte
 
@@ -588,11 +593,6 @@ pub guess-is : (x : ℕ) (u : List ℕ) → x < letter_count → first_of x < 32
 guess-is x u low number =
     let e = (letter_at x low).number number in
     ap (λ (k : Choices). guess_number (numbers_of k) u) e ∙ ap (λ (k : Choices). guess k u) (sym e)
-
-pub numbers-few : (x : ℕ) → x < letter_count → first_of x < 32 → length (numbers_of (get_or alphabet x unused)) ≤ unset
-numbers-few x low number =
-    let l = letter_at x low in
-    omega (arith, ap (λ (k : Choices). length (numbers_of k)) (l.number number), progression-length (first_of x) (2 ^ shift_of x) (count_of x), l.few)
 
 pub numbers-texts : (x : ℕ) → x < letter_count → first_of x < 32 → texts_of (get_or alphabet x unused) ≡ map decimal (numbers_of (get_or alphabet x unused))
 numbers-texts x low number =

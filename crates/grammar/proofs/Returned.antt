@@ -10,7 +10,8 @@ use lib.Dec.{leb}
 use lib.ListN.{length}
 use Rattle.isa.specs.declared.types.Op.{Op}
 use Rattle.isa.specs.Encode.{answer, write_checks, encode_of}
-use Rattle.grammar.specs.declared.types.LineRead.{LineRead}
+use Rattle.std.specs.Prelude.{Result, Ok, Err}
+use Rattle.grammar.specs.declared.types.NotLine.{NotLine}
 use Rattle.grammar.specs.Grammar.{line_of}
 use Rattle.grammar.specs.Read.{read_of}
 use Rattle.grammar.specs.Write.{line_answer}
@@ -21,10 +22,10 @@ use Rattle.grammar.proofs.Lines.{line-exact, longest}
 -- ---- reading
 
 module _ (s : List ℕ) where
-  read-returned : (a : LineRead) → read_of s ≡ a → LineReads s (line_read_number a) (line_read_operation a) (line_read_length a)
+  read-returned : (a : Result Op NotLine) → read_of s ≡ a → LineReads s (line_read_number a) (line_read_operation a) (line_read_length a)
   unfolding line_read_number line_read_operation line_read_length
-  read-returned (LineRead.Operation op) e = operation op ((line-exact s op).0 e)
-  read-returned (LineRead.NotLine k) e = not_line k ((longest s k).0 e)
+  read-returned (Ok op) e = operation op ((line-exact s op).0 e)
+  read-returned (Err k) e = not_line k.reach ((longest s k.reach).0 e)
 
   read-answered : {n k : ℕ} {v : List Op} → LineReads s n v k → LineReadsAs s n v k
   unfolding line_read_number line_read_operation line_read_length

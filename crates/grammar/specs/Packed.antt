@@ -1,8 +1,8 @@
 -- The alphabet as the code holds it: a text of up to three bytes is one number, the bytes from the lowest on and its length above them.
-use Rattle.std.specs.Prelude.{ℕ, zero, suc, ◌+◌, ◌-◌, ◌*◌, ◌/◌, ◌%◌, ◌^◌, ◌<◌, ◌≡◌, ◌||◌, List, [], ◌∷◌, map, eqb, get_or}
-use Rattle.grammar.specs.Template.{Choices, numbers, texts, decimal, pick_number}
+use Rattle.std.specs.Prelude.{ℕ, zero, suc, ◌+◌, ◌-◌, ◌*◌, ◌/◌, ◌%◌, ◌^◌, ◌<◌, ◌≡◌, cond, List, [], ◌∷◌, map, eqb, get_or, Option, Some, None}
+use Rattle.grammar.specs.Template.{Choices, numbers, texts, decimal}
 use Rattle.grammar.specs.Grammar.{letter_count}
-use Rattle.grammar.specs.Follow.{is_digit, place_of, found, unset}
+use Rattle.grammar.specs.Follow.{is_digit, place_of, found}
 
 -- so many bytes of a number, the lowest first
 unfoldable pub unpack : ℕ → ℕ → List ℕ
@@ -59,14 +59,18 @@ abbrev pub texts_of : Choices → List (List ℕ)
 texts_of (numbers ns) = map decimal ns
 texts_of (texts ws) = ws
 
--- the digit that a text begins with; 10 where there is none
-unfoldable pub digit_of : List ℕ → ℕ
-digit_of [] = 10
-digit_of (b ∷ s) = pick_number (is_digit b) (b - 48) 10
+-- the digit that a text begins with
+unfoldable pub digit_of : List ℕ → Option ℕ
+digit_of [] = None
+digit_of (b ∷ s) = cond (is_digit b) (Some (b - 48)) None
 
--- the place of a number, `unset` where it is not there; and of the number that a digit and a text make
-unfoldable pub placed : ℕ → List ℕ → ℕ
-placed m ns = pick_number (found (place_of m ns) ns) (place_of m ns) unset
+-- the place of a number, where it is there; and of the number that a digit and another, or a text, make
+unfoldable pub placed : ℕ → List ℕ → Option ℕ
+placed m ns = cond (found (place_of m ns) ns) (Some (place_of m ns)) None
 
-unfoldable pub placed_two : List ℕ → ℕ → List ℕ → ℕ
-placed_two ns f s = pick_number (eqb f 0 || eqb (digit_of s) 10) unset (placed (f * 10 + digit_of s) ns)
+abbrev pub placed_with : List ℕ → ℕ → Option ℕ → Option ℕ
+placed_with ns f None = None
+placed_with ns f (Some e) = placed (f * 10 + e) ns
+
+unfoldable pub placed_two : List ℕ → ℕ → List ℕ → Option ℕ
+placed_two ns f s = cond (eqb f 0) None (placed_with ns f (digit_of s))

@@ -1,17 +1,11 @@
--- A template as the code holds it: its bytes, filled up, how many they are, and its mark.
-use Rattle.std.specs.Prelude.{ℕ, ◌≤◌, ◌<◌, ◌≡◌, [], map, length, get_or, take}
+-- A template as the code holds it: its bytes and its mark.
+use Rattle.std.specs.Prelude.{ℕ, ◌<◌, ◌≡◌, [], map, length, get_or}
 use Rattle.grammar.specs.Follow.{Fixed}
 use Rattle.grammar.specs.Grammar.{templates, item_of}
 use Rattle.letters.specs.declared.templates.Template.{Template}
 
--- the bytes of the longest template
-abbrev pub template_max : ℕ
-template_max = 42
-
 pub record IsTemplate (pattern : ℕ) (t : Template) : Type 0 where
-  pub items : map item_of (take t.size t.bytes) ≡ get_or templates pattern []
-  pub short : t.size ≤ template_max
-  pub room : length t.bytes ≡ template_max
+  pub items : map item_of t.text.now ≡ get_or templates pattern []
   -- every line of the pattern has the mark's byte at its place
-  pub inside : t.mark < template_max
-  pub mark : Fixed (get_or templates pattern []) t.mark (get_or t.bytes t.mark 0)
+  pub inside : t.mark < length t.text.now
+  pub mark : Fixed (get_or templates pattern []) t.mark (get_or t.text.now t.mark 0)

@@ -1,5 +1,5 @@
 // The texts that the letters of a template stand for, and the value that a text gives a letter.
-ghost use Rattle.std.specs.Prelude.{◌≡◌, [], ◌∷◌, ℕ, ◌+◌, ◌*◌, ◌/◌, ◌%◌, ◌^◌, ◌<◌, ◌≤◌, length, drop, get_or};
+ghost use Rattle.std.specs.Prelude.{◌≡◌, [], ◌∷◌, ℕ, ◌+◌, ◌*◌, ◌/◌, ◌%◌, ◌^◌, ◌<◌, ◌≤◌, length, drop, get_or, IfSome};
 ghost use Rattle.grammar.specs.Template.{text_of, count};
 ghost use Rattle.grammar.specs.Follow.{common_prefix, guess_text, guess, value_of};
 ghost use Rattle.grammar.specs.Grammar.{alphabet, unused, letter_count, slot_of};
@@ -12,42 +12,70 @@ pub const UNSET: u8 = 255;
 
 const NUMBERS: u8 = 32;
 
-// The tables are matches: a constant array is built anew wherever it is read.
-
 // Of each letter, a byte each from the lowest on: the place of its first text, two to which power its texts stand apart, and how many it has.
 // Those of numbers begin below 32.
+static ROWS: [u32; LETTERS] = [
+    0x10_0100, 0x10_0101, 0x01_0000, 0x20_0000, 0x08_0200, 0x08_0203, 0x01_0000, 0x10_0000,
+    0x08_0000, 0x04_0000, 0x02_0000, 0x08_0000, 0x20_0000, 0x20_0000, 0x01_0000, 0x02_002c,
+    0x02_002a, 0x04_0020, 0x02_0024, 0x04_0026, 0x01_0000, 0x01_0000, 0x01_0000, 0x01_0000,
+    0x01_0000, 0x01_0000,
+];
+
+// A text: its bytes from the lowest on, and its length above them. 0 to 31; 0, 90, 180, 270; 90, 270; B, H, S, D; 4, 8; 2, 4.
+static TEXTS: [u32; 46] = [
+    0x0100_0030,
+    0x0100_0031,
+    0x0100_0032,
+    0x0100_0033,
+    0x0100_0034,
+    0x0100_0035,
+    0x0100_0036,
+    0x0100_0037,
+    0x0100_0038,
+    0x0100_0039,
+    0x0200_3031,
+    0x0200_3131,
+    0x0200_3231,
+    0x0200_3331,
+    0x0200_3431,
+    0x0200_3531,
+    0x0200_3631,
+    0x0200_3731,
+    0x0200_3831,
+    0x0200_3931,
+    0x0200_3032,
+    0x0200_3132,
+    0x0200_3232,
+    0x0200_3332,
+    0x0200_3432,
+    0x0200_3532,
+    0x0200_3632,
+    0x0200_3732,
+    0x0200_3832,
+    0x0200_3932,
+    0x0200_3033,
+    0x0200_3133,
+    0x0100_0030,
+    0x0200_3039,
+    0x0330_3831,
+    0x0330_3732,
+    0x0200_3039,
+    0x0330_3732,
+    0x0100_0042,
+    0x0100_0048,
+    0x0100_0053,
+    0x0100_0044,
+    0x0100_0034,
+    0x0100_0038,
+    0x0100_0032,
+    0x0100_0034,
+];
+
 pub fn row_of(x: usize) -> u32
     requires { x < letter_count }
     ensures { result ≡ get_or rows x 0 }
 {
-    match x {
-        0 => 0x10_0100,
-        1 => 0x10_0101,
-        2 => 0x01_0000,
-        3 => 0x20_0000,
-        4 => 0x08_0200,
-        5 => 0x08_0203,
-        6 => 0x01_0000,
-        7 => 0x10_0000,
-        8 => 0x08_0000,
-        9 => 0x04_0000,
-        10 => 0x02_0000,
-        11 => 0x08_0000,
-        12 => 0x20_0000,
-        13 => 0x20_0000,
-        14 => 0x01_0000,
-        15 => 0x02_002c,
-        16 => 0x02_002a,
-        17 => 0x04_0020,
-        18 => 0x02_0024,
-        19 => 0x04_0026,
-        20 => 0x01_0000,
-        21 => 0x01_0000,
-        22 => 0x01_0000,
-        23 => 0x01_0000,
-        24 => 0x01_0000,
-        _ => 0x01_0000,
-    }
+    ROWS[x]
 }
 
 fn first_in(row: u32) -> u8
@@ -80,67 +108,12 @@ pub fn slot_of(x: usize) -> usize
     }
 }
 
-// A text: its bytes from the lowest on, and its length above them. 0 to 31; 0, 90, 180, 270; 90, 270; B, H, S, D; 4, 8; 2, 4.
-fn text_at(i: usize) -> u32
-    requires { i < 46 }
-    ensures { result ≡ get_or packed_texts i 0 }
-{
-    match i {
-        0 => 0x0100_0030,
-        1 => 0x0100_0031,
-        2 => 0x0100_0032,
-        3 => 0x0100_0033,
-        4 => 0x0100_0034,
-        5 => 0x0100_0035,
-        6 => 0x0100_0036,
-        7 => 0x0100_0037,
-        8 => 0x0100_0038,
-        9 => 0x0100_0039,
-        10 => 0x0200_3031,
-        11 => 0x0200_3131,
-        12 => 0x0200_3231,
-        13 => 0x0200_3331,
-        14 => 0x0200_3431,
-        15 => 0x0200_3531,
-        16 => 0x0200_3631,
-        17 => 0x0200_3731,
-        18 => 0x0200_3831,
-        19 => 0x0200_3931,
-        20 => 0x0200_3032,
-        21 => 0x0200_3132,
-        22 => 0x0200_3232,
-        23 => 0x0200_3332,
-        24 => 0x0200_3432,
-        25 => 0x0200_3532,
-        26 => 0x0200_3632,
-        27 => 0x0200_3732,
-        28 => 0x0200_3832,
-        29 => 0x0200_3932,
-        30 => 0x0200_3033,
-        31 => 0x0200_3133,
-        32 => 0x0100_0030,
-        33 => 0x0200_3039,
-        34 => 0x0330_3831,
-        35 => 0x0330_3732,
-        36 => 0x0200_3039,
-        37 => 0x0330_3732,
-        38 => 0x0100_0042,
-        39 => 0x0100_0048,
-        40 => 0x0100_0053,
-        41 => 0x0100_0044,
-        42 => 0x0100_0034,
-        43 => 0x0100_0038,
-        44 => 0x0100_0032,
-        _ => 0x0100_0034,
-    }
-}
-
 // The text of a value, by the letter's row.
 pub fn text_in(row: u32, v: u8) -> u32
     requires { Row row × (v < row / 65536 % 256) }
     ensures { result ≡ get_or packed_texts (row % 256 + v * 2 ^ (row / 256 % 256)) 0 }
 {
-    text_at(first_in(row) as usize + ((v as usize) << shift_in(row)))
+    TEXTS[first_in(row) as usize + ((v as usize) << shift_in(row))]
 }
 
 // The text of a letter's value.
@@ -161,21 +134,21 @@ fn ten_times(f: u8) -> u8
     four + four + two
 }
 
-// The digit at a place of a text; 10 where there is none.
-fn digit_at(s: &[u8], at: usize) -> u8
-    ensures { (result ≡ digit_of (drop at s.now)) × (result ≤ 10) }
+// The digit at a place of a text.
+fn digit_at(s: &[u8], at: usize) -> Option<u8>
+    ensures { (result ≡ digit_of (drop at s.now)) × IfSome result (λ d. d ≤ 9) }
 {
     if s.len() <= at {
-        return 10;
+        return None;
     }
     let b = s[at];
     if b < b'0' {
-        return 10;
+        return None;
     }
     if b'9' < b {
-        return 10;
+        return None;
     }
-    b - b'0'
+    Some(b - b'0')
 }
 
 pub fn wide(x: u8) -> u32
@@ -197,39 +170,36 @@ fn starting_with(row: u32, b: u8) -> u8
     0
 }
 
-// The place of a number among a letter's, which stand a step apart; 255 where it is not there.
-fn place_of(row: u32, m: u8) -> u8
+// The place of a number among a letter's, which stand a step apart.
+fn place_of(row: u32, m: u8) -> Option<u8>
     requires { Row row × (row % 256 < 32) }
     ensures { (x : ℕ) → RowOf x row → result ≡ placed m (numbers_of (get_or alphabet x unused)) }
 {
     let first = first_in(row);
     if m < first {
-        return UNSET;
+        return None;
     }
     let far = m - first;
     let shift = shift_in(row);
     let v = far >> shift;
     if v << shift != far {
-        return UNSET;
+        return None;
     }
     if count_in(row) <= v {
-        return UNSET;
+        return None;
     }
-    v
+    Some(v)
 }
 
-// The place of the number of two digits that a digit and a text make; 255 where there is none.
-fn two_digits(row: u32, f: u8, s: &[u8], at: usize) -> u8
+// The place of the number of two digits that a digit and a text make.
+fn two_digits(row: u32, f: u8, s: &[u8], at: usize) -> Option<u8>
     requires { Row row × (row % 256 < 32) × (f ≤ 9) }
     ensures { (x : ℕ) → RowOf x row → result ≡ placed_two (numbers_of (get_or alphabet x unused)) f (drop at s.now) }
 {
     if f == 0 {
-        return UNSET;
+        return None;
     }
-    let e = digit_at(s, at);
-    if e == 10 {
-        return UNSET;
-    }
+    let e = digit_at(s, at)?;
     place_of(row, ten_times(f) + e)
 }
 
@@ -238,16 +208,13 @@ fn number_at(row: u32, s: &[u8], at: usize) -> u8
     requires { Row row × (row % 256 < 32) × (at < length s.now) }
     ensures { (x : ℕ) → RowOf x row → result ≡ guess (get_or alphabet x unused) (drop at s.now) }
 {
-    let f = digit_at(s, at);
-    if f == 10 {
+    let Some(f) = digit_at(s, at) else {
         return 0;
-    }
-    let two = two_digits(row, f, s, at + 1);
-    if two != UNSET {
+    };
+    if let Some(two) = two_digits(row, f, s, at + 1) {
         return two;
     }
-    let one = place_of(row, f);
-    if one != UNSET {
+    if let Some(one) = place_of(row, f) {
         return one;
     }
     starting_with(row, s[at])
@@ -274,8 +241,7 @@ pub fn along(packed: u32, s: &[u8], at: usize) -> usize
 {
     let n = (packed / 16777216) as usize;
     let mut rest = packed;
-    let mut i: usize = 0;
-    while i < n {
+    for i in 0..n {
         if s.len() <= at + i {
             return i;
         }
@@ -283,7 +249,6 @@ pub fn along(packed: u32, s: &[u8], at: usize) -> usize
             return i;
         }
         rest = rest / 256;
-        i += 1;
     }
     n
 }

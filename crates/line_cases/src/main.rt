@@ -5,9 +5,8 @@
 
 ghost use Rattle.std.specs.Prelude.{◌<◌};
 
-use fields::types::Named;
 use fields::{fields_of, named_by, read_numbers};
-use grammar::types::{LineRead, LineWritten};
+use grammar::types::LineRefusal;
 use isa::types::Op;
 use line_reader::read_line;
 use line_writer::write_line;
@@ -37,28 +36,23 @@ fn print_number(stdout: Stdout, n: u32) -> io::Result<()> {
 }
 
 fn print_fields(stdout: Stdout, f: [u32; 8]) -> io::Result<()> {
-    print_number(stdout, f[0])?;
-    print_number(stdout, f[1])?;
-    print_number(stdout, f[2])?;
-    print_number(stdout, f[3])?;
-    print_number(stdout, f[4])?;
-    print_number(stdout, f[5])?;
-    print_number(stdout, f[6])?;
-    print_number(stdout, f[7])
+    for n in f {
+        print_number(stdout, n)?;
+    }
+    Ok(())
 }
 
 fn print_read(stdout: Stdout, text: &[u8]) -> io::Result<()> {
     print!(stdout; "R")?;
     print_count(stdout, text.len())?;
-    let read = read_line(text);
-    match read {
-        LineRead::Operation(op) => {
+    match read_line(text) {
+        Ok(op) => {
             print_number(stdout, 0)?;
             print_fields(stdout, fields_of(op))
         }
-        LineRead::NotLine(k) => {
+        Err(refusal) => {
             print_number(stdout, 12)?;
-            print_count(stdout, k)
+            print_count(stdout, refusal.reach)
         }
     }
 }
@@ -68,15 +62,10 @@ fn print_answer(stdout: Stdout, number: u32, length: usize) -> io::Result<()> {
     print_count(stdout, length)
 }
 
-fn print_written(stdout: Stdout, written: LineWritten) -> io::Result<()> {
+fn print_written(stdout: Stdout, written: Result<usize, LineRefusal>) -> io::Result<()> {
     match written {
-        LineWritten::Length(n) => print_answer(stdout, 0, n),
-        LineWritten::NoSize => print_answer(stdout, 7, 0),
-        LineWritten::NoRotation => print_answer(stdout, 8, 0),
-        LineWritten::RegisterLimit => print_answer(stdout, 9, 0),
-        LineWritten::GroupStart => print_answer(stdout, 14, 0),
-        LineWritten::IndexLimit => print_answer(stdout, 10, 0),
-        LineWritten::Room => print_answer(stdout, 13, 0),
+        Ok(n) => print_answer(stdout, 0, n),
+        Err(refusal) => print_answer(stdout, refusal.number(), 0),
     }
 }
 
@@ -110,36 +99,25 @@ fn read_fields(stdin: Stdin) -> [u32; 8] {
     ]
 }
 
-fn read_text(mut stdin: Stdin, text: &mut [u8], length: usize) -> bool {
-    if text.len() < length {
-        return false;
-    }
-    stdin.read_exact(&mut text[0..length]).is_ok()
-}
-
-fn print_text(stdout: Stdout, text: &[u8], length: usize) -> io::Result<bool> {
-    if text.len() < length {
+fn read_case(mut stdin: Stdin, stdout: Stdout, length: usize) -> io::Result<bool> {
+    let mut buffer = [0u8; TEXT];
+    let Some(text) = buffer.get_mut(..length) else {
+        return Ok(false);
+    };
+    if stdin.read_exact(text).is_err() {
         return Ok(false);
     }
-    print_read(stdout, &text[0..length])?;
+    print_read(stdout, text)?;
     Ok(true)
 }
 
-fn read_case(stdin: Stdin, stdout: Stdout, length: usize) -> io::Result<bool> {
-    let mut text = [0u8; TEXT];
-    if !read_text(stdin, &mut text, length) {
-        return Ok(false);
-    }
-    print_text(stdout, &text, length)
-}
-
 fn write_text(stdout: Stdout, op: Op, buffer: &mut [u8], room: usize) -> io::Result<bool> {
-    if buffer.len() < room {
+    let Some(out) = buffer.get_mut(..room) else {
         return Ok(false);
-    }
+    };
     print!(stdout; "W")?;
     print_count(stdout, room)?;
-    print_written(stdout, write_line(op, &mut buffer[0..room]))?;
+    print_written(stdout, write_line(op, out))?;
     print!(stdout; " ")?;
     Ok(true)
 }
@@ -152,10 +130,9 @@ fn write_operation(stdout: Stdout, room: usize, op: Op) -> io::Result<bool> {
 }
 
 fn write_case(stdout: Stdout, room: usize, f: [u32; 8]) -> io::Result<bool> {
-    let named = named_by(read_numbers(&f));
-    match named {
-        Named::Operation(op) => write_operation(stdout, room, op),
-        Named::Nothing => Ok(false),
+    match named_by(read_numbers(&f)) {
+        Some(op) => write_operation(stdout, room, op),
+        None => Ok(false),
     }
 }
 

@@ -8,6 +8,7 @@ use native.Mathlib.Omega.{arith}
 use native.Mathlib.Decide.{ℕ_discrete}
 use borrow.Author.Tests.{eq-eqb, ne_eqb, eqb-true, eqb-false}
 use lib.Dec.{eqb}
+use Rattle.std.specs.Prelude.{Ok, Err}
 use lib.ListN.{length, get_or, set, drop, replicate, length-set, length-drop, drop_of_length-le}
 use lib.Seq.{drop-cons, drop-drop, get_or-set_same, get_or-set_other}
 use Rattle.grammar.specs.Template.{Item, byte, var, text_of, bind}
@@ -15,7 +16,7 @@ use Rattle.grammar.specs.Follow.{Followed, unset, common_prefix, further, stuck,
 use Rattle.grammar.specs.Search.{blank}
 use Rattle.grammar.specs.Grammar.{alphabet, unused, letter_count, slot_of, variables, item_of}
 use Rattle.grammar.specs.Packed.{text_bytes}
-use Rattle.line_reader.specs.Steps.{values_in, Held, Took, Steps, followed_of}
+use Rattle.line_reader.specs.Steps.{values_in, Held, Took, Steps, Follows}
 use Rattle.grammar.proofs.Prefix.{common-le-right}
 use Rattle.grammar.proofs.Guess.{differ}
 use Rattle.grammar.proofs.Follow.{follow-on, follow-off, follow-byte, follow-other, value-fits, partly-bind}
@@ -103,7 +104,7 @@ module _ (x : ℕ) (vs s : List ℕ) (at v packed n size : ℕ) (low : at ≤ le
   pub n_inside : at + n ≤ length s
   n_inside = omega (arith, far, common-le-right (text_bytes packed) (drop at s), length-drop at s)
 
-  pub variable-steps : Steps (var x) vs s at (record { on = eqb n size; at = at + n; values = set vs (slot_of x) v })
+  variable-steps : Steps (var x) vs s at (record { on = eqb n size; at = at + n; values = set vs (slot_of x) v })
   unfolding variables
   variable-steps =
       let step : n ≡ at + n - at = omega arith in
@@ -124,6 +125,12 @@ module _ (x : ℕ) (vs s : List ℕ) (at v packed n size : ℕ) (low : at ≤ le
             ∙ ap (λ (r : ℕ → ℕ). stuck n r) (sym after)
             ∙ ap (λ (k : ℕ). stuck k (values_in (set vs (slot_of x) v))) step;
       }
+
+  pub variable-on : n ≡ size → Steps (var x) vs s at (record { on = true; at = at + n; values = set vs (slot_of x) v })
+  variable-on e = subst (λ (b : Bool). Steps (var x) vs s at (record { on = b; at = at + n; values = set vs (slot_of x) v })) (eq-eqb n size e) variable-steps
+
+  pub variable-off : (n ≡ size → ⊥) → Steps (var x) vs s at (record { on = false; at = at + n; values = set vs (slot_of x) v })
+  variable-off e = subst (λ (b : Bool). Steps (var x) vs s at (record { on = b; at = at + n; values = set vs (slot_of x) v })) (ne_eqb n size e) variable-steps
 
 -- what is read of an array does not depend on what stands for nothing
 pub get_d_any : (l : List ℕ) (i d e : ℕ) → i < length l → get_or l i d ≡ get_or l i e
@@ -197,7 +204,7 @@ module _ {t s vs : List ℕ} {at k : ℕ} {r : Took} (f : Following t s vs at k)
             ∙ ap (λ (n : ℕ). further r.at (follow variables (map item_of (drop n t)) (values_in r.values) (drop r.at s))) next;
       }
 
-  pub following-off : r.on ≡ false → followed_of (record { whole = false; reach = r.at; values = r.values }) ≡ follow variables (map item_of t) blank s
+  pub following-off : r.on ≡ false → stuck r.at (values_in r.values) ≡ follow variables (map item_of t) blank s
   following-off e =
       let past : at + (r.at - at) ≡ r.at = omega (arith, p.forward) in
       sym (item-here ∙ ap (further at) (p.off e (map item_of (drop (suc k) t))) ∙ ap (λ (n : ℕ). stuck n (values_in r.values)) past)
@@ -210,20 +217,29 @@ end_more : (r : ℕ → ℕ) (a : ℕ) (s : List ℕ) → follow variables [] r 
 unfolding follow
 end_more r a s = refl
 
-pub following-ends : (t s vs : List ℕ) (at k : ℕ) → Following t s vs at k → length t ≤ k → followed_of (record { whole = eqb at (length s); reach = at; values = vs }) ≡ follow variables (map item_of t) blank s
-following-ends t s vs at k f h =
-    let none : at ≡ at + 0 = omega arith in
-    let ended : follow variables (map item_of t) blank s ≡ further at (follow variables [] (values_in vs) (drop at s)) = f.later ∙ ap (λ (u : List ℕ). further at (follow variables (map item_of u) (values_in vs) (drop at s))) (drop_of_length-le t h) in
-    elim (ℕ_discrete at (length s)) [
-      | yes e ↦
-          let past : length s ≤ at = omega arith in
-          let z : drop at s ≡ [] = drop_of_length-le s past in
-          ap (λ (b : Bool). followed_of (record { whole = b; reach = at; values = vs })) (eq-eqb at (length s) e)
-          ∙ (λ i. record { whole = true; reach = none i; values = values_in vs })
-          ∙ ap (further at) (sym (end_whole (values_in vs))) ∙ ap (λ (u : List ℕ). further at (follow variables [] (values_in vs) u)) (sym z) ∙ sym ended
-      | no n ↦
-          let z : drop at s ≡ get_or s at 0 ∷ drop (suc at) s = drop-cons s at 0 (omega (arith, f.inside)) in
-          ap (λ (b : Bool). followed_of (record { whole = b; reach = at; values = vs })) (ne_eqb at (length s) n)
-          ∙ (λ i. record { whole = false; reach = none i; values = values_in vs })
-          ∙ ap (further at) (sym (end_more (values_in vs) (get_or s at 0) (drop (suc at) s))) ∙ ap (λ (u : List ℕ). further at (follow variables [] (values_in vs) u)) (sym z) ∙ sym ended
-    ]
+module _ (t s vs : List ℕ) (at k : ℕ) (f : Following t s vs at k) (h : length t ≤ k) where
+  ended : follow variables (map item_of t) blank s ≡ further at (follow variables [] (values_in vs) (drop at s))
+  ended = f.later ∙ ap (λ (u : List ℕ). further at (follow variables (map item_of u) (values_in vs) (drop at s))) (drop_of_length-le t h)
+
+  none_more : at ≡ at + 0
+  none_more = omega arith
+
+  pub following-whole : at ≡ length s → record { whole = true; reach = at; values = values_in vs } ≡ follow variables (map item_of t) blank s
+  following-whole e =
+      let past : length s ≤ at = omega arith in
+      (λ i. record { whole = true; reach = none_more i; values = values_in vs })
+      ∙ ap (further at) (sym (end_whole (values_in vs))) ∙ ap (λ (u : List ℕ). further at (follow variables [] (values_in vs) u)) (sym (drop_of_length-le s past)) ∙ sym ended
+
+  pub following-more : (at ≡ length s → ⊥) → stuck at (values_in vs) ≡ follow variables (map item_of t) blank s
+  following-more n =
+      let z : drop at s ≡ get_or s at 0 ∷ drop (suc at) s = drop-cons s at 0 (omega (arith, f.inside)) in
+      (λ i. record { whole = false; reach = none_more i; values = values_in vs })
+      ∙ ap (further at) (sym (end_more (values_in vs) (get_or s at 0) (drop (suc at) s))) ∙ ap (λ (u : List ℕ). further at (follow variables [] (values_in vs) u)) (sym z) ∙ sym ended
+
+-- ---- the answer
+
+pub follows-whole : (vs : List ℕ) (at : ℕ) (f : Followed) → record { whole = true; reach = at; values = values_in vs } ≡ f → Follows (Ok vs) f
+follows-whole vs at f e = (sym (ap (λ (a : Followed). a.whole) e), ap (λ (a : Followed). a.values) e)
+
+pub follows-stuck : (vs : List ℕ) (at : ℕ) (f : Followed) → stuck at (values_in vs) ≡ f → Follows (Err (record { reach = at })) f
+follows-stuck vs at f e = (sym (ap (λ (a : Followed). a.whole) e), ap (λ (a : Followed). a.reach) e)

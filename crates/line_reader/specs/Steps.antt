@@ -1,11 +1,9 @@
 -- What one byte of a template makes of the values and the place: the code's steps, as the definition of reading takes them.
-use Rattle.std.specs.Prelude.{ℕ, ◌-◌, ◌≤◌, ◌<◌, max, ◌≡◌, Bool, true, false, List, [], ◌∷◌, ◌⊎◌, length, get_or, drop}
-use Rattle.line_reader.specs.declared.matcher.Step.{Step}
-use Rattle.line_reader.specs.declared.matcher.Matched.{Matched}
+use Rattle.std.specs.Prelude.{ℕ, ◌-◌, ◌≤◌, ◌<◌, max, ◌≡◌, Bool, true, false, List, [], ◌∷◌, ◌⊎◌, length, get_or, drop, Result, Ok, Err}
 use Rattle.grammar.specs.Template.{Item, count}
 use Rattle.grammar.specs.Follow.{Followed, unset, further, stuck, follow}
-use Rattle.line_reader.specs.declared.reader.Found.{Found}
-use Rattle.grammar.specs.Search.{Search, read, unread, pick_search, blank}
+use Rattle.grammar.specs.Search.{blank}
+use Rattle.grammar.specs.declared.types.NotLine.{NotLine}
 use Rattle.grammar.specs.Grammar.{alphabet, unused, letter_count, pattern_count, variables, templates}
 
 -- the values that an array holds
@@ -23,8 +21,9 @@ pub record Took : Type 0 where
   pub at : ℕ
   pub values : List ℕ
 
-abbrev pub taken : Step → List ℕ → Took
-taken r vs = record { on = r.on; at = r.at; values = vs }
+abbrev pub taken : Result ℕ NotLine → List ℕ → Took
+taken (Ok at) vs = record { on = true; at = at; values = vs }
+taken (Err stop) vs = record { on = false; at = stop.reach; values = vs }
 
 -- one item: on from the place that the step answers, or stuck there
 pub record Steps (item : Item) (vs s : List ℕ) (at : ℕ) (r : Took) : Type 0 where
@@ -34,18 +33,18 @@ pub record Steps (item : Item) (vs s : List ℕ) (at : ℕ) (r : Took) : Type 0 
   pub on : r.on ≡ true → (t : List Item) → follow variables (item ∷ t) (values_in vs) (drop at s) ≡ further (r.at - at) (follow variables t (values_in r.values) (drop r.at s))
   pub off : r.on ≡ false → (t : List Item) → follow variables (item ∷ t) (values_in vs) (drop at s) ≡ stuck (r.at - at) (values_in r.values)
 
-abbrev pub followed_of : Matched → Followed
-followed_of m = record { whole = m.whole; reach = m.reach; values = values_in m.values }
-
-abbrev pub search_of : Found → Search
-search_of f = pick_search f.whole (read f.pattern (values_in f.values)) (unread f.reach)
+-- the values of a text that is the template's whole, or how far it follows it
+abbrev pub Follows : Result (List ℕ) NotLine → Followed → Type 0
+Follows (Ok vs) f = (f.whole ≡ true) × (values_in vs ≡ f.values)
+Follows (Err stop) f = (f.whole ≡ false) × (stop.reach ≡ f.reach)
 
 -- a pattern that was tried where others go so far: it has the text, or it has not and how far the furthest goes is known
-pub record Tried (pattern : ℕ) (s : List ℕ) (far : ℕ) (m : Matched) : Type 0 where
-  pub sized : length m.values ≡ letter_count
-  pub has : m.whole ≡ true → followed_of m ≡ follow variables (get_or templates pattern []) blank s
-  pub has_not : m.whole ≡ false → (follow variables (get_or templates pattern []) blank s).whole ≡ false
-  pub furthest : m.whole ≡ false → max far m.reach ≡ max far (follow variables (get_or templates pattern []) blank s).reach
+abbrev pub TriedAs : Followed → ℕ → Result (List ℕ) NotLine → Type 0
+TriedAs f far (Ok vs) = (f.whole ≡ true) × (values_in vs ≡ f.values)
+TriedAs f far (Err stop) = (f.whole ≡ false) × (max far stop.reach ≡ max far f.reach)
+
+abbrev pub Tried : ℕ → List ℕ → ℕ → Result (List ℕ) NotLine → Type 0
+Tried pattern s far r = TriedAs (follow variables (get_or templates pattern []) blank s) far r
 
 -- some pattern goes so far
 pub record Reached (s : List ℕ) (reach : ℕ) : Type 0 where

@@ -4,16 +4,16 @@ use mathlib.Core.Path.{◌≡◌, sym, ap, ◌∙◌, subst}
 use mathlib.Core.List.{List, [], ◌++◌, map}
 use native.Mathlib.Omega.{arith}
 use borrow.Author.Tests.{le-leb, lt-leb}
-use lib.Dec.{leb}
 use lib.ListN.{length, get_or, drop}
 use Rattle.isa.specs.declared.types.Op.{Op}
-use Rattle.isa.specs.declared.types.Written.{Written}
+use Rattle.isa.specs.declared.types.WriteRefusal.{WriteRefusal}
+use Rattle.std.specs.Prelude.{Ok, Err}
 use Rattle.isa.specs.Encode.{encode_of}
-use Rattle.grammar.specs.declared.types.LineWritten.{LineWritten}
+use Rattle.grammar.specs.declared.types.LineRefusal.{LineRefusal}
 use Rattle.grammar.specs.Template.{Item, fill}
 use Rattle.grammar.specs.Grammar.{variables, item_of, templates, pattern_count, pattern_of, values_of, line_of}
 use Rattle.grammar.specs.Line.{Writable}
-use Rattle.grammar.specs.Write.{pick_written, line_answer, LineOutcome, line_outcome, write_of}
+use Rattle.grammar.specs.Write.{fitting, line_answer, LineOutcome, line_outcome, write_of}
 use Rattle.grammar.proofs.Alphabet.{readable}
 use Rattle.grammar.proofs.Remakes.{remakes}
 use Rattle.line_writer.specs.Fill.{values_from, Low, Few}
@@ -39,36 +39,19 @@ line-is op t vs pattern is e v =
 
 -- ---- the room
 
-pub no_room : (line out : List ℕ) (n : ℕ) → n ≡ length line → length out < n → record { answer = LineWritten.Room; out = out } ≡ line_outcome (pick_written (leb (length line) (length out)) (LineWritten.Length (length line)) LineWritten.Room) line out
-no_room line out n e h = rw (lt-leb (length line) (length out) (omega arith))
+pub no_room : (line out : List ℕ) → length out < length line → record { answer = Err LineRefusal.Room; out = out } ≡ line_outcome (fitting line (length out)) line out
+no_room line out h = rw (lt-leb (length line) (length out) h)
 
-pub in-room : (line out text after : List ℕ) (n : ℕ) → n ≡ length line → n ≤ length out → text ≡ line → after ≡ text ++ drop (length text) out
-    → record { answer = LineWritten.Length n; out = after } ≡ line_outcome (pick_written (leb (length line) (length out)) (LineWritten.Length (length line)) LineWritten.Room) line out
-in-room line out text after n e h t w = rw (le-leb (length line) (length out) (omega arith), w, t, e)
+pub in-room : (line out : List ℕ) → length line ≤ length out → record { answer = Ok (length line); out = line ++ drop (length line) out } ≡ line_outcome (fitting line (length out)) line out
+in-room line out h = rw (le-leb (length line) (length out) h)
 
 -- ---- the checks
 
-pub by_word : (op : Op) (out : List ℕ) (a : Written) (w : ℕ) (o : LineOutcome) → a ≡ encode_of op → a ≡ Written.Word w
-    → o ≡ line_outcome (pick_written (leb (length (line_of op)) (length out)) (LineWritten.Length (length (line_of op))) LineWritten.Room) (line_of op) out → o ≡ write_of op out
+pub by_word : (op : Op) {w : ℕ} (line out : List ℕ) (o : LineOutcome) → encode_of op ≡ Ok w → line ≡ line_of op
+    → o ≡ line_outcome (fitting line (length out)) line out → o ≡ write_of op out
 unfolding write_of line_answer
-by_word op out a w o e f h = rw (sym e ∙ f) h
+by_word op {w} line out o e f h = h ∙ ap (λ (l : List ℕ). line_outcome (fitting l (length out)) l out) f ∙ sym (rw e)
 
-pub no_size : (op : Op) (out : List ℕ) (a : Written) → a ≡ encode_of op → a ≡ Written.NoSize → record { answer = LineWritten.NoSize; out = out } ≡ write_of op out
+pub by_refusal : (op : Op) (refusal : WriteRefusal) (out : List ℕ) → encode_of op ≡ Err refusal → record { answer = Err (LineRefusal.Word refusal); out = out } ≡ write_of op out
 unfolding write_of line_answer
-no_size op out a e f = rw (sym e ∙ f)
-
-pub no_rotation : (op : Op) (out : List ℕ) (a : Written) → a ≡ encode_of op → a ≡ Written.NoRotation → record { answer = LineWritten.NoRotation; out = out } ≡ write_of op out
-unfolding write_of line_answer
-no_rotation op out a e f = rw (sym e ∙ f)
-
-pub no_register : (op : Op) (out : List ℕ) (a : Written) → a ≡ encode_of op → a ≡ Written.RegisterLimit → record { answer = LineWritten.RegisterLimit; out = out } ≡ write_of op out
-unfolding write_of line_answer
-no_register op out a e f = rw (sym e ∙ f)
-
-pub no_start : (op : Op) (out : List ℕ) (a : Written) → a ≡ encode_of op → a ≡ Written.GroupStart → record { answer = LineWritten.GroupStart; out = out } ≡ write_of op out
-unfolding write_of line_answer
-no_start op out a e f = rw (sym e ∙ f)
-
-pub no_index : (op : Op) (out : List ℕ) (a : Written) → a ≡ encode_of op → a ≡ Written.IndexLimit → record { answer = LineWritten.IndexLimit; out = out } ≡ write_of op out
-unfolding write_of line_answer
-no_index op out a e f = rw (sym e ∙ f)
+by_refusal op refusal out e = sym (rw e)

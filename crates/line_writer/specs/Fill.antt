@@ -1,20 +1,16 @@
 -- What one byte of a template writes: the code's steps.
-use Rattle.std.specs.Prelude.{ℕ, ◌+◌, ◌<◌, ◌≡◌, List, [], ◌∷◌, ◌++◌, length, get_or, take}
+use Rattle.std.specs.Prelude.{ℕ, ◌<◌, List, [], ◌∷◌, get_or}
 use Rattle.grammar.specs.Template.{Item, byte, var, text_of, count, bind}
 use Rattle.isa.specs.declared.types.MulIndexed.{MulIndexed}
 use Rattle.isa.specs.declared.types.ByElement.{ByElement}
 use Rattle.isa.specs.declared.types.MulGroup.{MulGroup}
 use Rattle.isa.specs.Register.{by_group}
 use Rattle.isa.specs.Encode.{by_size, size_bits}
-use Rattle.grammar.specs.Grammar.{alphabet, unused, line_max, slot_of, letter_a, letter_e, letter_h, letter_i, letter_j, letter_k, letter_l, letter_m, letter_p, letter_q, letter_t, no_values, indexed_values, element_values, group_values}
+use Rattle.grammar.specs.Grammar.{alphabet, unused, slot_of, letter_a, letter_e, letter_h, letter_i, letter_j, letter_k, letter_l, letter_m, letter_p, letter_q, letter_t, no_values, indexed_values, element_values, group_values}
 
 -- the values that an array holds
 abbrev pub values_from : List ℕ → ℕ → ℕ
 values_from vs y = get_or vs y 0
-
--- the longest line, and all three bytes of a text that begins at its end
-abbrev pub line_room : ℕ
-line_room = line_max + 3
 
 -- each below how many its slot has; each below 100
 abbrev pub Low : (ℕ → ℕ) → Type 0
@@ -40,9 +36,3 @@ group_by a = group_values (by_group letter_a letter_e a.group) a
 abbrev pub item_text : Item → (ℕ → ℕ) → List ℕ
 item_text (byte b) e = b ∷ []
 item_text (var x) e = text_of (get_or alphabet x unused) (e (slot_of x))
-
--- a text was put at a place of an array: it stands behind what stood before the place
-pub record Puts (text before : List ℕ) (at next : ℕ) (after : List ℕ) : Type 0 where
-  pub past : next ≡ at + length text
-  pub held : take next after ≡ take at before ++ text
-  pub kept : length after ≡ length before

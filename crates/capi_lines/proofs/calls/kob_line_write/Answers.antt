@@ -11,12 +11,12 @@ returns-then-fields-ne-FIELDS c = write-refused c.args.fields.now c.args.out.now
 pub packed-requires : goal.packed-requires
 packed-requires c = written-short _ c.args.out.now c.write_line.result (ap (λ (o : LineOutcome). o.answer) c.write_line.ensures)
 
-pub returns-in-Operation : goal.returns-in-Operation
-returns-in-Operation c = write-named c.args.fields.now c.args.out.now c.if-fields-ne-FIELDS.false
-    (sym (c.named_by-named.ensures ∙ ap named_of c.read_numbers.ensures) ∙ c.in-Operation.is)
+pub returns-in-Some : goal.returns-in-Some
+returns-in-Some c = write-named c.args.fields.now c.args.out.now c.if-fields-ne-FIELDS.false
+    (sym (c.named_by.ensures ∙ ap named_of c.read_numbers.ensures) ∙ c.in-Some.is)
     c.write_line.ensures
     c.packed.ensures
 
-pub returns-in-Nothing : goal.returns-in-Nothing
-returns-in-Nothing c = write-nothing c.args.fields.now c.args.out.now c.if-fields-ne-FIELDS.false
-    (sym (c.named_by-named.ensures ∙ ap named_of c.read_numbers.ensures) ∙ c.in-Nothing.is)
+pub returns-in-None : goal.returns-in-None
+returns-in-None c = write-nothing c.args.fields.now c.args.out.now c.if-fields-ne-FIELDS.false
+    (sym (c.named_by.ensures ∙ ap named_of c.read_numbers.ensures) ∙ c.in-None.is)

@@ -10,10 +10,10 @@ use Rattle.letters.proofs.texts.two_digits.Goals as goal
 pub returns-then-f-eq0 : goal.returns-then-f-eq0
 returns-then-f-eq0 c = λ x p. two-zero _ _ _ c.if-f-eq0.true
 
-pub returns-then-e-eq10 : goal.returns-then-e-eq10
-returns-then-e-eq10 c = λ x p. two_none _ _ _ (sym c.digit_at-e.ensures.0 ∙ c.if-e-eq10.true)
+pub returns-in_err-e : goal.returns-in_err-e
+returns-in_err-e c = λ x p. c.from_residual.ensures ∙ two_none _ _ _ (sym c.digit_at.ensures.0 ∙ c.in_err-e.was)
 
 pub returns : goal.returns
 returns c = λ x p.
-    c.place_of.ensures x p ∙ ap (λ (t : ℕ). placed (t + c.digit_at-e.result) (numbers_of (get_or alphabet x unused))) c.ten_times.ensures
-    ∙ two-placed _ _ _ c.digit_at-e.result c.digit_at-e.ensures.0 c.if-f-eq0.false c.if-e-eq10.false
+    c.place_of.ensures x p ∙ ap (λ (t : ℕ). placed (t + c.in_ok-e.e) (numbers_of (get_or alphabet x unused))) c.ten_times.ensures
+    ∙ two-placed _ _ _ c.in_ok-e.e (sym c.digit_at.ensures.0 ∙ c.in_ok-e.was) c.if-f-eq0.false

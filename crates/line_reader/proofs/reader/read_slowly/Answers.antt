@@ -1,14 +1,16 @@
--- The pattern that was found makes the operation.
 use mathlib.Core.Path.{ap, ◌∙◌}
-use Rattle.grammar.specs.declared.types.LineRead.{LineRead}
-use Rattle.line_reader.proofs.Finding.{found-low, read_found, read_none}
+use Rattle.std.specs.Prelude.{Ok}
+use Rattle.line_reader.proofs.Finding.{finding-starts, finding-on, finding-ends, tried-read}
 use Rattle.line_reader.proofs.reader.read_slowly.Goals as goal
 
-pub make-requires : goal.make-requires
-make-requires c = (found-low c.find-f.result c.args.s.now c.find-f.ensures.0 c.if-f.true, c.find-f.ensures.1)
+pub loop-pattern-init : goal.loop-pattern-init
+loop-pattern-init c = finding-starts _ _ c.requires
 
-pub returns-then-f : goal.returns-then-f
-returns-then-f c = ap LineRead.Operation c.make.ensures ∙ read_found c.find-f.result c.args.s.now c.find-f.ensures.0 c.if-f.true
+pub returns-in-Ok : goal.returns-in-Ok
+returns-in-Ok c = ap Ok c.make.ensures ∙ tried-read c.args.s.now c.in-Ok.values c.loop-pattern.pattern c.loop-pattern.furthest c.loop-pattern-test.true c.in-Ok.ensures
+
+pub loop-pattern-preserved : goal.loop-pattern-preserved
+loop-pattern-preserved c = finding-on c.in-Err.refusal c.loop-pattern.invariant c.loop-pattern-test.true c.in-Err.ensures c.max-furthest.ensures
 
 pub returns : goal.returns
-returns c = read_none c.find-f.result c.args.s.now c.find-f.ensures.0 c.if-f.false
+returns c = finding-ends c.loop-pattern.invariant c.loop-pattern-test.false
