@@ -5,7 +5,7 @@ ghost use Rattle.capi_replay.specs.Replay.{judged_packed, replay_call};
 
 use replay::judge;
 use replay::number::{judged_kind, judged_number, judged_place};
-use trace::types::Judged;
+use trace::types::{CaseRefusal, Verdict};
 
 fn wide(x: u8) -> u64
     ensures { (result ≡ x) × (result < 0x100) }
@@ -14,7 +14,7 @@ fn wide(x: u8) -> u64
 }
 
 // The number in bits 0 to 7, the kind in bits 8 to 15, the place in bits 16 to 31. A file has at most 8,192 bytes, and a program fewer words.
-fn packed(judged: Judged) -> u64
+fn packed(judged: Result<Verdict, CaseRefusal>) -> u64
     requires { judged_place judged < 8192 }
     ensures { result ≡ judged_packed judged }
 {

@@ -17,7 +17,6 @@ use Rattle.trace.specs.Verdict.{parts_of, is_flag, flag_of, verdict_of}
 use Rattle.trace.specs.Number.{verdict_place}
 use Rattle.trace.specs.Stream.{Listing, Within, Status}
 use Rattle.trace.specs.declared.types.Verdict.{Verdict}
-use Rattle.trace.specs.declared.types.End.{End}
 use Rattle.trace.proofs.Contents.{contents-exact, begins-short}
 use Rattle.trace.proofs.Live.{listing-cases, listing-entry}
 use Rattle.trace.proofs.Few.{listing-few}
@@ -27,6 +26,7 @@ use Rattle.stream.specs.Kept.{listing_marks, ended_marks, KeptWithin, Kept}
 use Rattle.stream.specs.declared.state.Marks.{Marks}
 use Rattle.stream.proofs.Padded.{padded-length}
 use Rattle.capi_stream.proofs.Stored.{Small}
+use Rattle.trace.specs.Stream.{End}
 
 -- ---- within a body
 

@@ -8,7 +8,6 @@ use lib.Seq.{length-take-le, take_all}
 use Rattle.trace.specs.Number.{end_number, told_number, told_kind, told_place}
 use Rattle.trace.specs.Stream.{Status, over}
 use Rattle.trace.specs.Feed.{end_of}
-use Rattle.trace.specs.declared.types.End.{End}
 use Rattle.stream.specs.Kept.{ended_marks}
 use Rattle.stream.specs.Steps.{KeptHeld, FeedsHeld, ClosesMarks}
 use Rattle.stream.specs.declared.state.Marks.{Marks}
@@ -18,6 +17,7 @@ use Rattle.capi_stream.specs.Read.{marks_of}
 use Rattle.capi_stream.specs.Calls.{KeptBytes, parts_packed, fed_packed, FeedCall, EndCall}
 use Rattle.capi_stream.proofs.Held.{kept-held, kept-marks, bytes_one, bytes-kept, zeros-over}
 use Rattle.capi_stream.proofs.Answer.{packed-taken, packed-fed}
+use Rattle.trace.specs.Stream.{End}
 
 module _ (state : List ℕ) (size : length state ≡ 20544) (m : Marks) (read : m ≡ marks_of (take (length state - 20480) (drop 20480 state))) where
   held-length : length (take 20480 state) ≡ 20480

@@ -8,7 +8,6 @@ use lib.ListN.{length, take, drop, replicate, take-append-drop, length-append, l
 use lib.Seq.{take-append-le, drop-append-le, take-take, drop-drop, take_at, drop_at}
 use Rattle.trace.specs.Recorded.{four_of, fours_of}
 use Rattle.trace.specs.Stream.{Status, over, start}
-use Rattle.trace.specs.declared.types.End.{End}
 use Rattle.trace.proofs.Live.{live-empty}
 use Rattle.stream.specs.Body.{padded}
 use Rattle.stream.specs.Kept.{listing_marks, ended_marks, Kept}
@@ -23,6 +22,7 @@ use Rattle.capi_stream.specs.Calls.{KeptBytes}
 use Rattle.capi_stream.proofs.Parts.{drop-take}
 use Rattle.capi_stream.proofs.Stored.{marks-length, marks-back}
 use Rattle.capi_stream.proofs.Bounds.{kept_small}
+use Rattle.trace.specs.Stream.{End}
 
 -- ---- of a stream
 

@@ -14,12 +14,14 @@ use Rattle.isa.specs.Bytes.{word_at}
 use Rattle.trace.specs.Number.{verdict_kind, verdict_place, end_number}
 use Rattle.trace.specs.Recorded.{four_of, fours_of, flag_number}
 use Rattle.trace.specs.declared.types.Verdict.{Verdict}
-use Rattle.trace.specs.declared.types.End.{End}
 use Rattle.trace.proofs.Written.{four_bytes}
 use Rattle.stream.specs.declared.state.Phase.{Phase}
 use Rattle.stream.specs.declared.state.Marks.{Marks}
 use Rattle.capi_stream.specs.Marks.{phase_number, said_number, said_byte, marks_bytes}
 use Rattle.capi_stream.specs.Read.{phase_of, said_of, marks_of}
+use Rattle.trace.specs.declared.types.TraceRefusal.{TraceRefusal}
+use Rattle.trace.specs.Stream.{End}
+use Rattle.std.specs.Prelude.{Ok, Err}
 
 -- ---- numbers
 
@@ -107,9 +109,9 @@ held_back held rest byte l =
 -- ---- the phase, the verdict and the flag
 
 pub end-small : (e : End) → end_number e < 0x100
-end-small End.Complete = omega arith
-end-small End.BadContents = omega arith
-end-small End.BadTotal = omega arith
+end-small (Ok tt) = omega arith
+end-small (Err TraceRefusal.BadContents) = omega arith
+end-small (Err TraceRefusal.BadTotal) = omega arith
 
 pub kind-range : (v : Verdict) → (1 ≤ verdict_kind v) × (verdict_kind v < 0x100)
 kind-range Verdict.Agrees = (omega arith, omega arith)
@@ -132,9 +134,9 @@ phase-back : (p : Phase) → phase_of (phase_number p) ≡ p
 unfolding phase_of
 phase-back Phase.Contents = refl
 phase-back Phase.Bodies = refl
-phase-back (Phase.Ended End.Complete) = refl
-phase-back (Phase.Ended End.BadContents) = refl
-phase-back (Phase.Ended End.BadTotal) = refl
+phase-back (Phase.Ended (Ok tt)) = refl
+phase-back (Phase.Ended (Err TraceRefusal.BadContents)) = refl
+phase-back (Phase.Ended (Err TraceRefusal.BadTotal)) = refl
 
 said-back : (v : Verdict) → said_of (said_number v) (verdict_place v) (said_byte v) ≡ v
 unfolding said_of

@@ -2,18 +2,19 @@
 use Rattle.std.specs.Prelude.{ℕ, List, [], ◌∷◌, cond, eqb, get_or}
 use Rattle.isa.specs.Bytes.{word_at}
 use Rattle.trace.specs.declared.types.Verdict.{Verdict}
-use Rattle.trace.specs.declared.types.End.{End}
 use Rattle.stream.specs.declared.state.Phase.{Phase}
 use Rattle.stream.specs.declared.state.Standing.{Standing}
 use Rattle.stream.specs.declared.state.Course.{Course}
 use Rattle.stream.specs.declared.state.Marks.{Marks}
+use Rattle.trace.specs.declared.types.TraceRefusal.{TraceRefusal}
+use Rattle.std.specs.Prelude.{Ok, Err}
 
 unfoldable pub phase_of : ℕ → Phase
 phase_of n =
     cond (eqb n 0) Phase.Contents
     (cond (eqb n 1) Phase.Bodies
-    (cond (eqb n 2) (Phase.Ended End.Complete)
-    (cond (eqb n 17) (Phase.Ended End.BadContents) (Phase.Ended End.BadTotal))))
+    (cond (eqb n 2) (Phase.Ended (Ok tt))
+    (cond (eqb n 17) (Phase.Ended (Err TraceRefusal.BadContents)) (Phase.Ended (Err TraceRefusal.BadTotal)))))
 
 unfoldable pub said_of : ℕ → ℕ → ℕ → Verdict
 said_of n place byte =

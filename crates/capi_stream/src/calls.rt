@@ -4,10 +4,9 @@ ghost use Rattle.trace.specs.Number.{told_number, told_kind, told_place};
 ghost use Rattle.capi_stream.specs.Calls.{parts_packed, FeedCall, EndCall};
 
 use crate::marks::{marks_of, store};
-use stream::bytes::clear;
 use stream::feed::{close, feed};
 use stream::number::{end_number, told_kind, told_number, told_place};
-use stream::state::ended_marks;
+use stream::state::Marks;
 use trace::types::Told;
 
 const SIZE: usize = 20544;
@@ -39,10 +38,8 @@ pub extern "C" fn kob_stream_feed(state: &mut [u8], bytes: &[u8]) -> u64
     }
     let marks = marks_of(&state[HELD..]);
     let stepped = feed(&mut state[..HELD], marks, bytes);
-    let told = stepped.told;
-    let left = stepped.marks;
-    store(&mut state[HELD..], left);
-    packed(told, stepped.taken)
+    store(&mut state[HELD..], stepped.marks);
+    packed(stepped.told, stepped.taken)
 }
 
 // Says that the line has ended.
@@ -55,7 +52,7 @@ pub extern "C" fn kob_stream_end(state: &mut [u8]) -> u32
     }
     let marks = marks_of(&state[HELD..]);
     let end = close(marks);
-    clear(&mut state[..HELD]);
-    store(&mut state[HELD..], ended_marks(end));
+    state[..HELD].fill(0);
+    store(&mut state[HELD..], Marks::ended(end));
     end_number(end) as u32
 }

@@ -7,10 +7,9 @@ ghost use Rattle.capi_stream.specs.Read.{phase_of, said_of, marks_of};
 use codec::word_at;
 use replay::contents::wide;
 use replay::number::{verdict_kind, verdict_place};
-use stream::bytes::clear;
 use stream::number::end_number;
 use stream::state::{Course, Marks, Phase, Standing};
-use trace::types::{End, Verdict};
+use trace::types::{TraceRefusal, Verdict};
 
 // The numbers come before the single bytes.
 const NUMBERS: usize = 32;
@@ -32,9 +31,9 @@ fn phase_of(n: u32) -> Phase
     match n {
         0 => Phase::Contents,
         1 => Phase::Bodies,
-        2 => Phase::Ended(End::Complete),
-        17 => Phase::Ended(End::BadContents),
-        _ => Phase::Ended(End::BadTotal),
+        2 => Phase::Ended(Ok(())),
+        17 => Phase::Ended(Err(TraceRefusal::BadContents)),
+        _ => Phase::Ended(Err(TraceRefusal::BadTotal)),
     }
 }
 
@@ -48,12 +47,8 @@ fn said_byte(v: Verdict) -> u8
     ensures { result ≡ said_byte v }
 {
     match v {
-        Verdict::Agrees => 0,
         Verdict::FileDiffers(_, x) => x,
-        Verdict::FlagDiffers => 0,
-        Verdict::Outside(_) => 0,
-        Verdict::Reserved(_) => 0,
-        Verdict::BadFlag => 0,
+        _ => 0,
     }
 }
 
@@ -95,18 +90,15 @@ pub fn marks_of(bytes: &[u8]) -> Marks
 fn numbers(m: Marks) -> [usize; 8]
     ensures { result ≡ marks_numbers m }
 {
-    let phase = m.phase;
-    let course = m.course;
-    let standing = course.standing;
-    let said = standing.said;
+    let standing = m.course.standing;
     [
-        phase_number(phase),
+        phase_number(m.phase),
         m.cases,
         m.case,
         m.due,
-        course.at,
-        said_number(said),
-        verdict_place(said),
+        m.course.at,
+        said_number(standing.said),
+        verdict_place(standing.said),
         standing.qc as usize,
     ]
 }
@@ -136,7 +128,7 @@ fn put_bytes(bytes: &mut [u8], held: [u8; 4], byte: u8)
     requires { length bytes.old ≡ 32 }
     ensures { bytes.new ≡ held ++ byte ∷ replicate 27 0 }
 {
-    clear(bytes);
+    bytes.fill(0);
     bytes[0] = held[0];
     bytes[1] = held[1];
     bytes[2] = held[2];
@@ -148,11 +140,11 @@ pub fn store(bytes: &mut [u8], m: Marks)
     requires { length bytes.old ≡ 64 }
     ensures { bytes.new ≡ marks_bytes m }
 {
-    let course = m.course;
-    let held = course.held;
-    let standing = course.standing;
-    let said = standing.said;
     let all = numbers(m);
     put_numbers(&mut bytes[..NUMBERS], &all);
-    put_bytes(&mut bytes[NUMBERS..], held, said_byte(said));
+    put_bytes(
+        &mut bytes[NUMBERS..],
+        m.course.held,
+        said_byte(m.course.standing.said),
+    );
 }

@@ -2,7 +2,7 @@
 -- Assumes nothing.
 use mathlib.Core.Path.{◌≡◌, refl, sym, ap, ap₂, ◌∙◌}
 use mathlib.Core.List.{List}
-use mathlib.Core.Bool.{Bool, true, false, ◌&&◌}
+use mathlib.Core.Bool.{Bool, true, false, cond, ◌&&◌}
 use Prim.Native.Nat.{ℕ, ◌+◌, ◌*◌, ◌-◌, ◌<◌, ◌≤◌}
 use native.Mathlib.Nat.{add-sub_cancel_left}
 use native.Mathlib.Omega.{arith}
@@ -14,63 +14,57 @@ use Rattle.isa.proofs.File.{legal-exact}
 use Rattle.trace.specs.Trace.{cases_of, length_at, count_at, start_at, body_size, total_of, body_of, contents_allowed, total_allowed}
 use Rattle.trace.specs.Verdict.{pick_accepted, accepted_of, verdict_of, case_of, judged_after, judge_of}
 use Rattle.trace.specs.Returned.{EntryAllowed, ContentsAllowed}
-use Rattle.trace.specs.declared.types.Accepted.{Accepted}
-use Rattle.trace.specs.declared.types.Judged.{Judged}
 use Rattle.trace.specs.declared.types.Verdict.{Verdict}
+use Rattle.replay.proofs.Read.{cond_none}
+use Rattle.std.proofs.lemmas.Option.{cond_some}
 use Rattle.trace.proofs.Contents.{contents-exact, contents-refused, total-exact, body-within}
 use Rattle.replay.specs.Body.{Whole}
-use Rattle.replay.specs.Extent.{pick_extent, entries_of, CaseThere}
-use Rattle.replay.specs.declared.contents.Extent.{Extent}
+use Rattle.replay.specs.Extent.{entries_of, CaseThere}
+use Rattle.trace.specs.declared.types.TraceRefusal.{TraceRefusal}
+use Rattle.trace.specs.declared.types.CaseRefusal.{CaseRefusal}
+use Rattle.std.specs.Prelude.{Some, None, Result, Ok, Err}
 
 module _ (t : List ℕ) where
   -- ---- the check of a trace
 
-  pub accepted-none : (ContentsAllowed t → ⊥) → Accepted.BadContents ≡ accepted_of t
+  pub accepted-none : (ContentsAllowed t → ⊥) → (Err TraceRefusal.BadContents) ≡ accepted_of t
   unfolding accepted_of
   accepted-none no_more = rw (contents-refused t no_more)
 
-  picked-refused : (a : Bool) (n : ℕ) → pick_extent a (Extent.Ends n) Extent.Refused ≡ Extent.Refused → a ≡ false
-  picked-refused true n h = let z : ◌≡◌ {A = ℕ} 0 1 = cc in absurd (omega arith)
-  picked-refused false n h = refl
-
-  picked-ends : (a : Bool) (n m : ℕ) → pick_extent a (Extent.Ends n) Extent.Refused ≡ Extent.Ends m → (a ≡ true) × (n ≡ m)
-  picked-ends true n m h = (refl, cc)
-  picked-ends false n m h = let z : ◌≡◌ {A = ℕ} 0 1 = cc in absurd (omega arith)
-
-  pub accepted-refused : entries_of t ≡ Extent.Refused → Accepted.BadContents ≡ accepted_of t
+  pub accepted-refused : entries_of t ≡ None → (Err TraceRefusal.BadContents) ≡ accepted_of t
   unfolding accepted_of entries_of
-  accepted-refused h = rw (picked-refused (contents_allowed t) (total_of t) h)
+  accepted-refused h = rw (cond_none (contents_allowed t) (total_of t) h)
 
-  module _ (total : ℕ) (h : entries_of t ≡ Extent.Ends total) where
+  module _ (total : ℕ) (h : entries_of t ≡ Some total) where
     known : (contents_allowed t ≡ true) × (total_of t ≡ total)
     unfolding entries_of
-    known = picked-ends (contents_allowed t) (total_of t) total h
+    known = cond_some (contents_allowed t) (total_of t) total h
 
     tests : total_allowed t ≡ (leb (length t) 65536 && eqb (length t) total)
     tests = ap (λ (n : ℕ). leb (length t) 65536 && eqb (length t) n) known.1
 
-    pub accepted-cases : (n : ℕ) → n ≡ cases_of t → (leb (length t) 65536 && eqb (length t) total) ≡ true → Accepted.Cases n ≡ accepted_of t
+    pub accepted-cases : (n : ℕ) → n ≡ cases_of t → (leb (length t) 65536 && eqb (length t) total) ≡ true → Ok n ≡ accepted_of t
     unfolding accepted_of
     accepted-cases n e s = rw (known.0, tests ∙ s, e)
 
-    pub accepted-total : (leb (length t) 65536 && eqb (length t) total) ≡ false → Accepted.BadTotal ≡ accepted_of t
+    pub accepted-total : (leb (length t) 65536 && eqb (length t) total) ≡ false → (Err TraceRefusal.BadTotal) ≡ accepted_of t
     unfolding accepted_of
     accepted-total s = rw (known.0, tests ∙ s)
 
   -- ---- a case asked for
 
-  pub judged-as : (k : Accepted) (n : ℕ) → accepted_of t ≡ k → judged_after k t n ≡ judge_of t n
+  pub judged-as : (k : Result ℕ TraceRefusal) (n : ℕ) → accepted_of t ≡ k → judged_after k t n ≡ judge_of t n
   unfolding judge_of
   judged-as k n e = rw e
 
-  module _ (c n : ℕ) (e : accepted_of t ≡ Accepted.Cases c) where
-    pub judged-case : (v : Verdict) → v ≡ case_of t n → n < c → Judged.Case v ≡ judge_of t n
-    judged-case v s l = rw (← judged-as (Accepted.Cases c) n e, lt-ltb n c l, s)
+  module _ (c n : ℕ) (e : accepted_of t ≡ Ok c) where
+    pub judged-case : (v : Verdict) → v ≡ case_of t n → n < c → Ok v ≡ judge_of t n
+    judged-case v s l = rw (← judged-as (Ok c) n e, lt-ltb n c l, s)
 
-    pub judged-none : c ≤ n → Judged.NoCase ≡ judge_of t n
-    judged-none l = rw (← judged-as (Accepted.Cases c) n e, le-ltb n c l)
+    pub judged-none : c ≤ n → (Err CaseRefusal.NoCase) ≡ judge_of t n
+    judged-none l = rw (← judged-as (Ok c) n e, le-ltb n c l)
 
-    picked-cases : (a b : Bool) (m : ℕ) → pick_accepted a (pick_accepted b (Accepted.Cases m) Accepted.BadTotal) Accepted.BadContents ≡ Accepted.Cases c → (a ≡ true) × (b ≡ true) × (m ≡ c)
+    picked-cases : (a b : Bool) (m : ℕ) → pick_accepted a (pick_accepted b (Ok m) (Err TraceRefusal.BadTotal)) (Err TraceRefusal.BadContents) ≡ Ok c → (a ≡ true) × (b ≡ true) × (m ≡ c)
     picked-cases true true m h = (refl, refl, cc)
     picked-cases true false m h = let z : ◌≡◌ {A = ℕ} 0 2 = cc in absurd (omega arith)
     picked-cases false b m h = let z : ◌≡◌ {A = ℕ} 0 1 = cc in absurd (omega arith)

@@ -1,34 +1,22 @@
 -- A body's parts and the verdict on them. `done-verdict`, `stopped-verdict`: a run on a copy of the file is the run of the body. `cut_parts`: where the
 -- code cuts them they have their sizes. `verdict-judged`, `verdict-refused`: the verdict on them is the body's. Assumes nothing.
 use mathlib.Core.Path.{◌≡◌, refl, sym, ap, ap₂, ◌∙◌}
-use mathlib.Core.List.{List, [], ◌∷◌}
+use mathlib.Core.List.{List}
+use mathlib.Core.Logic.{◌⊎◌, inl, inr}
 use mathlib.Core.Bool.{Bool, true, false, ◌&&◌}
 use Prim.Native.Nat.{ℕ, ◌+◌, ◌*◌, ◌-◌, ◌<◌, ◌≤◌}
 use native.Mathlib.Omega.{arith}
 use lib.ListN.{length, take, drop, length-take, length-drop}
 use lib.Seq.{take_all}
-use types.Run.{OneOf, miss}
-use denote.Enum.Declared.{tag_of}
 use Rattle.isa.specs.Bytes.{word_at, words_of}
 use Rattle.isa.specs.Run.{Outcome, outcome_of}
 use Rattle.isa.specs.declared.types.Ending.{Ending}
 use Rattle.isa.specs.declared.types.Ran.{Ran}
-use Rattle.isa.specs.contracts.types.Ending.{the_type}
 use Rattle.trace.specs.Verdict.{Body, parts_of, is_flag, flag_of, flags, compared, ended_verdict, besides, verdict_of}
 use Rattle.trace.specs.declared.types.Verdict.{Verdict}
-use Rattle.replay.specs.Body.{Whole, Parts, stopped_of}
+use Rattle.replay.specs.Body.{Whole, Parts}
 
 -- ---- the run, beside what was recorded
-
-stopped-as : (o : Outcome) (after : Bool) (left : List ℕ) (e : Ending) → OneOf (1 ∷ 2 ∷ 3 ∷ 4 ∷ 5 ∷ 6 ∷ []) (tag_of the_type e) → stopped_of e o.answer.done ≡ ended_verdict e o after left
-stopped-as o after left Ending.Done h = absurd (miss (1 ∷ 2 ∷ 3 ∷ 4 ∷ 5 ∷ 6 ∷ []) 0 tt h)
-stopped-as o after left Ending.BadLength h = refl
-stopped-as o after left Ending.NotPowerOfTwo h = refl
-stopped-as o after left Ending.BadSize h = refl
-stopped-as o after left Ending.TooLong h = refl
-stopped-as o after left Ending.Outside h = refl
-stopped-as o after left Ending.Reserved h = refl
-
 module _ (L : ℕ) (before : Bool) (file words : List ℕ) (after : Bool) (left : List ℕ) (r : Ran) (copy now : List ℕ) (same : copy ≡ file)
     (ran : record { answer = r; file = now } ≡ outcome_of L copy before (words_of words)) where
   abbrev ours : Outcome
@@ -37,8 +25,15 @@ module _ (L : ℕ) (before : Bool) (file words : List ℕ) (after : Bool) (left 
   beside : ended_verdict r.ending ours after left ≡ besides (outcome_of L file before (words_of words)) after left
   beside = ap (λ (o : Outcome). besides o after left) (ran ∙ ap (λ (f : List ℕ). outcome_of L f before (words_of words)) same)
 
-  pub stopped-verdict : OneOf (1 ∷ 2 ∷ 3 ∷ 4 ∷ 5 ∷ 6 ∷ []) (tag_of the_type r.ending) → stopped_of r.ending r.done ≡ besides (outcome_of L file before (words_of words)) after left
-  stopped-verdict h = stopped-as ours after left r.ending h ∙ beside
+  pub stopped-verdict : (e : Ending) → r.ending ≡ e → ended_verdict e ours after left ≡ besides (outcome_of L file before (words_of words)) after left
+  stopped-verdict e h = ap (λ (d : Ending). ended_verdict d ours after left) (sym h) ∙ beside
+
+  pub refused-verdict : (r.ending ≡ Ending.BadLength) ⊎ ((r.ending ≡ Ending.NotPowerOfTwo) ⊎ ((r.ending ≡ Ending.BadSize) ⊎ (r.ending ≡ Ending.TooLong))) →
+      Verdict.BadFlag ≡ besides (outcome_of L file before (words_of words)) after left
+  refused-verdict (inl e) = stopped-verdict _ e
+  refused-verdict (inr (inl e)) = stopped-verdict _ e
+  refused-verdict (inr (inr (inl e))) = stopped-verdict _ e
+  refused-verdict (inr (inr (inr e))) = stopped-verdict _ e
 
   pub done-verdict : r.ending ≡ Ending.Done → (v : Verdict) → v ≡ flags r.qc after → compared 0 now left v ≡ besides (outcome_of L file before (words_of words)) after left
   done-verdict e v f = ap (compared 0 now left) f ∙ ap (λ (d : Ending). ended_verdict d ours after left) (sym e) ∙ beside

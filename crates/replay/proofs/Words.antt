@@ -3,7 +3,8 @@
 use mathlib.Core.Path.{◌≡◌, refl, sym, ap, ◌∙◌}
 use mathlib.Core.List.{List, [], ◌∷◌}
 use mathlib.Core.Bool.{Bool, true}
-use Prim.Native.Nat.{ℕ, ◌+◌, ◌*◌, ◌/◌, ◌<◌, ◌≤◌}
+use Prim.Native.Nat.{ℕ, ◌+◌, ◌*◌, ◌/◌, ◌<◌, ◌≤◌, min}
+use Rattle.std.proofs.Math.Nat.{min-le_left, min-le_right}
 use native.Mathlib.Omega.{arith}
 use lib.ListN.{length, get_or, take, drop, length-take, length-drop}
 use lib.Seq.{ext_get_or, get_or-take, get_or-drop}
@@ -32,6 +33,10 @@ words-taken bytes words i n at m e taken =
     let place : at + 4 * k ≡ (i + k) * 4 = omega arith in
     get_or-take n words k 0 (omega arith) ∙ taken.each k (omega arith) ∙ ap (word_at bytes) place ∙ words-at bytes (i + k) (omega arith)
     ∙ sym (get_or-take n (drop i (words_of bytes)) k 0 (omega arith) ∙ get_or-drop i (words_of bytes) k 0))
+
+-- at most 16 words are taken, and one at least
+pub taken-some : (n left : ℕ) → n ≡ min 16 left → 0 < left → (0 < n) × (n ≤ left) × (n ≤ 16)
+taken-some n left e some = (grind (arith, min-le_left, min-le_right), omega (arith, e, min-le_right 16 left), omega (arith, e, min-le_left 16 left))
 
 module _ (L : ℕ) (file : List ℕ) (qc : Bool) (bytes : List ℕ) (held : Held L file) (short : length bytes ≤ 16384) where
   -- after `done` words

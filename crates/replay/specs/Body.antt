@@ -2,9 +2,7 @@
 use Rattle.std.specs.Prelude.{◌≡◌, ℕ, ◌+◌, ◌*◌, ◌<◌, ◌≤◌, List, true, length, get_or}
 use Rattle.isa.specs.Bytes.{word_at}
 use Rattle.isa.specs.File.{legal}
-use Rattle.isa.specs.declared.types.Ending.{Ending}
 use Rattle.trace.specs.Trace.{body_size}
-use Rattle.trace.specs.declared.types.Verdict.{Verdict}
 
 -- a body of an accepted trace
 pub record Whole (L W : ℕ) (body : List ℕ) : Type 0 where
@@ -18,16 +16,6 @@ pub record Parts (L : ℕ) (file words left : List ℕ) : Type 0 where
   pub sized : length file ≡ 4 * L
   pub few : length words ≤ 16384
   pub beside : length left ≡ 4 * L
-
--- what is said of a run that stopped
-abbrev pub stopped_of : Ending → ℕ → Verdict
-stopped_of Ending.Outside k = Verdict.Outside k
-stopped_of Ending.Reserved k = Verdict.Reserved k
-stopped_of Ending.Done k = Verdict.BadFlag
-stopped_of Ending.BadLength k = Verdict.BadFlag
-stopped_of Ending.NotPowerOfTwo k = Verdict.BadFlag
-stopped_of Ending.BadSize k = Verdict.BadFlag
-stopped_of Ending.TooLong k = Verdict.BadFlag
 
 -- the first n words are those from a place on
 pub record WordsFrom (bytes : List ℕ) (at n : ℕ) (words : List ℕ) : Type 0 where

@@ -1,12 +1,12 @@
 -- A number read at a place of a trace.
-use Rattle.std.specs.Prelude.{ℕ, ◌+◌, List, Bool, true, false, length, leb}
+use Rattle.std.specs.Prelude.{◌≡◌, ℕ, ◌+◌, List, cond, length, leb, Option, Some, None}
 use Rattle.isa.specs.Bytes.{word_at}
-use Rattle.replay.specs.declared.reader.Read.{Read}
-
-abbrev pub pick_read : Bool → Read → Read → Read
-pick_read true a b = a
-pick_read false a b = b
 
 -- the number at a place, where the trace has its four bytes
-unfoldable pub number_at : List ℕ → ℕ → Read
-number_at s at = pick_read (leb (at + 4) (length s)) (Read.Number (word_at s at)) Read.Short
+unfoldable pub number_at : List ℕ → ℕ → Option ℕ
+number_at s at = cond (leb (at + 4) (length s)) (Some (word_at s at)) None
+
+-- a reader is behind a number that it gave, and stays where there is none
+abbrev pub Moved : Option ℕ → ℕ → ℕ → Type 0
+Moved (Some n) old new = new ≡ old + 4
+Moved None old new = new ≡ old

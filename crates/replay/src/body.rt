@@ -3,7 +3,7 @@ ghost use Rattle.std.specs.Prelude.{◌≡◌, ◌*◌, length};
 ghost use Rattle.isa.specs.Bytes.{words_of};
 ghost use Rattle.isa.specs.Run.{outcome_of};
 ghost use Rattle.trace.specs.Verdict.{flags as defined_flags, besides, verdict_of};
-ghost use Rattle.replay.specs.Body.{Whole, Parts, stopped_of};
+ghost use Rattle.replay.specs.Body.{Whole, Parts};
 
 use crate::compare::compare;
 use crate::program::run_bytes;
@@ -13,16 +13,6 @@ use trace::types::Verdict;
 
 // The longest file: 32 registers of 2,048 bits.
 const LONGEST_FILE: usize = 8192;
-
-// Copies a file, or a part of one.
-pub fn load(image: &mut [u8], file: &[u8])
-    requires { length image.old ≡ length file.now }
-    ensures { image.new ≡ file.now }
-{
-    for i in 0..file.len() {
-        image[i] = file[i];
-    }
-}
 
 // What is said where the file agrees.
 pub fn flags(left: bool, after: bool) -> Verdict
@@ -35,23 +25,7 @@ pub fn flags(left: bool, after: bool) -> Verdict
     }
 }
 
-// What is said of a run that stopped, which is not compared. No other ending is met: `replayed_on` has seen that it is not Done, and the contents are
-// checked.
-fn stopped(ending: Ending, done: usize) -> Verdict
-    ensures { result ≡ stopped_of ending done }
-{
-    match ending {
-        Ending::Done => Verdict::BadFlag,
-        Ending::BadLength => Verdict::BadFlag,
-        Ending::NotPowerOfTwo => Verdict::BadFlag,
-        Ending::BadSize => Verdict::BadFlag,
-        Ending::TooLong => Verdict::BadFlag,
-        Ending::Outside => Verdict::Outside(done),
-        Ending::Reserved => Verdict::Reserved(done),
-    }
-}
-
-// The run of a body's words on a copy of its file, beside the flag and the file after it.
+// The run of a body's words on a copy of its file, beside the flag and the file after it. A run that stopped is not compared.
 fn replayed_on(
     image: &mut [u8],
     l: usize,
@@ -65,13 +39,17 @@ fn replayed_on(
     requires parts { Parts l file.now words.now left.now }
     ensures { result ≡ besides (outcome_of l file.now before (words_of words.now)) after left.now }
 {
-    load(image, file);
+    image.copy_from_slice(file);
     let ran = run_bytes(l, image, before, words);
-    let ending = ran.ending;
-    let Ending::Done = ending else {
-        return stopped(ending, ran.done);
-    };
-    compare(image, left, flags(ran.qc, after))
+    match ran.ending {
+        Ending::Done => compare(image, left, flags(ran.qc, after)),
+        Ending::Outside => Verdict::Outside(ran.done),
+        Ending::Reserved => Verdict::Reserved(ran.done),
+        // Not met: the contents are checked.
+        Ending::BadLength | Ending::NotPowerOfTwo | Ending::BadSize | Ending::TooLong => {
+            Verdict::BadFlag
+        }
+    }
 }
 
 // The same, with an array that holds the longest file for the copy.

@@ -25,14 +25,13 @@ fn alike(a: &[u8], b: &[u8]) -> usize
     requires { length b.now ≡ length a.now }
     ensures { (result ≤ length a.now) × Alike a.now b.now result }
 {
-    let mut at = 0;
-    while BLOCK <= a.len() - at {
+    let whole = a.len() - a.len() % BLOCK;
+    for at in (0..whole).step_by(BLOCK) {
         if !same_block(a, b, at) {
             return at;
         }
-        at += BLOCK;
     }
-    at
+    whole
 }
 
 // The first place from `from` on that differs, or the end.
@@ -41,14 +40,12 @@ fn differing(a: &[u8], b: &[u8], from: usize) -> usize
     requires from_in_bounds { (from ≤ length a.now) × Alike a.now b.now from }
     ensures { Differing a.now b.now result }
 {
-    let mut i = from;
-    while i < a.len() {
+    for i in from..a.len() {
         if a[i] != b[i] {
             return i;
         }
-        i += 1;
     }
-    i
+    a.len()
 }
 
 // The first place in which two parts of files of one size differ, or the end.

@@ -5,20 +5,13 @@ ghost use Rattle.trace.specs.Verdict.{case_of, accepted_of, judge_of};
 ghost use Rattle.replay.specs.Extent.{body_end, entry_of, entries_of, count_of, Counted, CaseThere};
 
 use crate::body::verdict;
-use crate::reader::{Read, read_number};
+use crate::reader::{Reader, number_at};
 use codec::word_at;
 use regfile::check::is_legal;
-use trace::types::{Accepted, Judged, Verdict};
+use trace::types::{CaseRefusal, TraceRefusal, Verdict};
 
 // The longest trace: 64 KiB.
 const LONGEST_TRACE: usize = 65536;
-
-// Where the bodies end whose entries are read so far, or contents that are refused.
-#[derive(Clone, Copy)]
-pub enum Extent {
-    Ends(usize),
-    Refused,
-}
 
 pub fn wide(x: u32) -> usize
     ensures { result ≡ x }
@@ -42,76 +35,61 @@ pub fn body_size(l: usize, w: usize) -> usize
 }
 
 // The end of a body that starts at `due`, if its length, its word count and its start are allowed.
-pub fn body_end(l: usize, w: usize, start: usize, due: usize) -> Extent
+pub fn body_end(l: usize, w: usize, start: usize, due: usize) -> Option<usize>
     requires { due ≤ 0x400_0000 }
     ensures { result ≡ body_end l w start due }
 {
     if is_legal(l) & ((w <= 4096) & (start == due)) {
-        return Extent::Ends(due + body_size(l, w));
+        return Some(due + body_size(l, w));
     }
-    Extent::Refused
+    None
 }
 
-// The entry of case k, whose body has to start at `due`.
-fn entry(trace: &[u8], k: usize, due: usize) -> Extent
+// The end of the body of case k, if its entry is there and allowed: the body has to start at `due`.
+fn entry(trace: &[u8], k: usize, due: usize) -> Option<usize>
     requires { (k < 1024) × (due ≤ 0x400_0000) }
     ensures { result ≡ entry_of trace.now k due }
 {
-    let at = entry_place(k);
-    let Read::Number(l) = read_number(trace, at) else {
-        return Extent::Refused;
-    };
-    let Read::Number(w) = read_number(trace, at + 4) else {
-        return Extent::Refused;
-    };
-    let Read::Number(start) = read_number(trace, at + 8) else {
-        return Extent::Refused;
-    };
+    let mut numbers = Reader::new(trace, entry_place(k));
+    let l = numbers.number()?;
+    let w = numbers.number()?;
+    let start = numbers.number()?;
     body_end(wide(l), wide(w), wide(start), due)
 }
 
-// All entries. `check` has read their number.
-fn entries(trace: &[u8], cases: usize) -> Extent
+// The end of the last body, if all entries are there and allowed. `check` has read their number.
+fn entries(trace: &[u8], cases: usize) -> Option<usize>
     requires { Counted trace.now cases }
     ensures { result ≡ entries_of trace.now }
 {
     let mut due = entry_place(cases);
     for k in 0..cases {
-        let extent = entry(trace, k, due);
-        let Extent::Ends(end) = extent else {
-            return Extent::Refused;
-        };
-        due = end;
+        due = entry(trace, k, due)?;
     }
-    Extent::Ends(due)
+    Some(due)
 }
 
-// The number of cases; 0 where it is cut short or too large.
-fn count(trace: &[u8]) -> usize
+// The number of cases, if it is there and allowed.
+fn count(trace: &[u8]) -> Option<usize>
     ensures { result ≡ count_of trace.now }
 {
-    let Read::Number(cases) = read_number(trace, 0) else {
-        return 0;
-    };
-    if cases <= 1024 { wide(cases) } else { 0 }
+    let cases = wide(number_at(trace, 0)?);
+    if (1 <= cases) & (cases <= 1024) {
+        return Some(cases);
+    }
+    None
 }
 
 // How many cases a trace has, or why it is refused.
-pub fn check(trace: &[u8]) -> Accepted
+pub fn check(trace: &[u8]) -> Result<usize, TraceRefusal>
     ensures { result ≡ accepted_of trace.now }
 {
-    let cases = count(trace);
-    if cases == 0 {
-        return Accepted::BadContents;
-    }
-    let extent = entries(trace, cases);
-    let Extent::Ends(total) = extent else {
-        return Accepted::BadContents;
-    };
+    let cases = count(trace).ok_or(TraceRefusal::BadContents)?;
+    let total = entries(trace, cases).ok_or(TraceRefusal::BadContents)?;
     if (trace.len() <= LONGEST_TRACE) & (trace.len() == total) {
-        return Accepted::Cases(cases);
+        return Ok(cases);
     }
-    Accepted::BadTotal
+    Err(TraceRefusal::BadTotal)
 }
 
 // The verdict of a case. `judge` has checked the trace and the number.
@@ -128,19 +106,12 @@ fn case_verdict(trace: &[u8], n: usize) -> Verdict
 }
 
 // The verdict of case n of a lent trace, or why there is none.
-pub fn judge(trace: &[u8], n: usize) -> Judged
+pub fn judge(trace: &[u8], n: usize) -> Result<Verdict, CaseRefusal>
     ensures { result ≡ judge_of trace.now n }
 {
-    let accepted = check(trace);
-    match accepted {
-        Accepted::Cases(cases) => {
-            if n < cases {
-                Judged::Case(case_verdict(trace, n))
-            } else {
-                Judged::NoCase
-            }
-        }
-        Accepted::BadContents => Judged::BadContents,
-        Accepted::BadTotal => Judged::BadTotal,
+    let cases = check(trace)?;
+    if cases <= n {
+        return Err(CaseRefusal::NoCase);
     }
+    Ok(case_verdict(trace, n))
 }

@@ -2,26 +2,21 @@
 ghost use Rattle.std.specs.Prelude.{◌≡◌};
 ghost use Rattle.trace.specs.Number.{verdict_kind, verdict_place, accepted_number, accepted_cases, judged_number, judged_kind, judged_place};
 
-use trace::types::{Accepted, Judged, Verdict};
+use trace::types::{CaseRefusal, TraceRefusal, Verdict};
 
-pub fn accepted_number(a: Accepted) -> u8
-    ensures { result ≡ accepted_number a }
+pub fn accepted_number(accepted: Result<usize, TraceRefusal>) -> u8
+    ensures { result ≡ accepted_number accepted }
 {
-    match a {
-        Accepted::Cases(_) => 0,
-        Accepted::BadContents => 15,
-        Accepted::BadTotal => 16,
+    match accepted {
+        Ok(_) => 0,
+        Err(refusal) => refusal as u8,
     }
 }
 
-pub fn accepted_cases(a: Accepted) -> usize
-    ensures { result ≡ accepted_cases a }
+pub fn accepted_cases(accepted: Result<usize, TraceRefusal>) -> usize
+    ensures { result ≡ accepted_cases accepted }
 {
-    match a {
-        Accepted::Cases(cases) => cases,
-        Accepted::BadContents => 0,
-        Accepted::BadTotal => 0,
-    }
+    accepted.unwrap_or(0)
 }
 
 pub fn verdict_kind(v: Verdict) -> u8
@@ -41,44 +36,29 @@ pub fn verdict_place(v: Verdict) -> usize
     ensures { result ≡ verdict_place v }
 {
     match v {
-        Verdict::Agrees => 0,
-        Verdict::FileDiffers(i, _) => i,
-        Verdict::FlagDiffers => 0,
-        Verdict::Outside(k) => k,
-        Verdict::Reserved(k) => k,
-        Verdict::BadFlag => 0,
+        Verdict::FileDiffers(place, _) | Verdict::Outside(place) | Verdict::Reserved(place) =>
+            place,
+        Verdict::Agrees | Verdict::FlagDiffers | Verdict::BadFlag => 0,
     }
 }
 
-pub fn judged_number(j: Judged) -> u8
-    ensures { result ≡ judged_number j }
+pub fn judged_number(judged: Result<Verdict, CaseRefusal>) -> u8
+    ensures { result ≡ judged_number judged }
 {
-    match j {
-        Judged::Case(_) => 0,
-        Judged::BadContents => 15,
-        Judged::BadTotal => 16,
-        Judged::NoCase => 22,
+    match judged {
+        Ok(_) => 0,
+        Err(refusal) => refusal as u8,
     }
 }
 
-pub fn judged_kind(j: Judged) -> u8
-    ensures { result ≡ judged_kind j }
+pub fn judged_kind(judged: Result<Verdict, CaseRefusal>) -> u8
+    ensures { result ≡ judged_kind judged }
 {
-    match j {
-        Judged::Case(v) => verdict_kind(v),
-        Judged::BadContents => 0,
-        Judged::BadTotal => 0,
-        Judged::NoCase => 0,
-    }
+    judged.map_or(0, verdict_kind)
 }
 
-pub fn judged_place(j: Judged) -> usize
-    ensures { result ≡ judged_place j }
+pub fn judged_place(judged: Result<Verdict, CaseRefusal>) -> usize
+    ensures { result ≡ judged_place judged }
 {
-    match j {
-        Judged::Case(v) => verdict_place(v),
-        Judged::BadContents => 0,
-        Judged::BadTotal => 0,
-        Judged::NoCase => 0,
-    }
+    judged.map_or(0, verdict_place)
 }

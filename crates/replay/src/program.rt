@@ -24,14 +24,6 @@ fn words_at(bytes: &[u8], at: usize, n: usize) -> [u32; TAKEN]
     words
 }
 
-// At most so many.
-fn taken(n: usize) -> usize
-    requires { 0 < n }
-    ensures { (0 < result) × (result ≤ n) × (result ≤ 16) }
-{
-    if n < TAKEN { n } else { TAKEN }
-}
-
 // Runs a program that is given as bytes. `replayed_on` has a checked file.
 pub fn run_bytes(l: usize, file: &mut [u8], qc: bool, bytes: &[u8]) -> Ran
     requires held { Held l file.old }
@@ -42,13 +34,12 @@ pub fn run_bytes(l: usize, file: &mut [u8], qc: bool, bytes: &[u8]) -> Ran
     let mut flag = qc;
     let mut done = 0;
     while done < count {
-        let n = taken(count - done);
+        let n = TAKEN.min(count - done);
         let words = words_at(bytes, done << 2, n);
         let ran = run(l, file, flag, &words[..n]);
-        let ending = ran.ending;
-        let Ending::Done = ending else {
+        let Ending::Done = ran.ending else {
             return Ran {
-                ending,
+                ending: ran.ending,
                 done: done + ran.done,
                 qc: ran.qc,
             };

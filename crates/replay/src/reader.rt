@@ -1,14 +1,17 @@
 // The numbers of a trace, and a reader that holds a trace and its place.
 ghost use Rattle.std.specs.Prelude.{◌≡◌};
-ghost use Rattle.replay.specs.Read.{number_at};
+ghost use Rattle.replay.specs.Read.{number_at, Moved};
 
 use codec::word_at;
 
-// A number of a trace, or too few bytes for it.
-#[derive(Clone, Copy)]
-pub enum Read {
-    Number(u32),
-    Short,
+// The number at a place, if the trace has its four bytes.
+pub fn number_at(s: &[u8], at: usize) -> Option<u32>
+    ensures { result ≡ number_at s.now at }
+{
+    if s.len() < 4 || s.len() - 4 < at {
+        return None;
+    }
+    Some(word_at(s, at))
 }
 
 // Document 01's form for a lent trace: the slice and a place in it.
@@ -18,38 +21,20 @@ pub struct Reader<'a> {
     pub at: usize,
 }
 
-// The number at a place.
-pub fn number_at(s: &[u8], at: usize) -> Read
-    ensures { result ≡ number_at s.now at }
-{
-    let n = s.len();
-    if n < 4 {
-        return Read::Short;
+impl<'a> Reader<'a> {
+    pub fn new(trace: &'a [u8], at: usize) -> Reader<'a>
+        ensures { (result.trace ≡ trace.entry) × (result.at ≡ at) }
+    {
+        Reader { trace, at }
     }
-    if n - 4 < at {
-        return Read::Short;
+
+    // The number at the reader's place, which then is behind it.
+    pub fn number(&mut self) -> Option<u32>
+        ensures gives { result ≡ number_at self.old.trace.now self.old.at }
+        ensures moves { Moved result self.old.at self.new.at × (self.new.trace ≡ self.old.trace) }
+    {
+        let n = number_at(self.trace, self.at)?;
+        self.at += 4;
+        Some(n)
     }
-    Read::Number(word_at(s, at))
-}
-
-// ---- the reader: each function takes it apart or makes it, and is proved by hand
-
-pub fn placed<'a>(trace: &'a [u8], at: usize) -> Reader<'a>
-    ensures { (result.trace ≡ trace.entry) × (result.at ≡ at) }
-{
-    Reader { trace, at }
-}
-
-// The number at the reader's place.
-pub fn next<'a>(r: Reader<'a>) -> Read
-    ensures { result ≡ number_at r.entry.trace.now r.entry.at }
-{
-    number_at(r.trace, r.at)
-}
-
-// The same with plain parameters; all callers read through it.
-pub fn read_number(trace: &[u8], at: usize) -> Read
-    ensures { result ≡ number_at trace.now at }
-{
-    next(placed(trace, at))
 }

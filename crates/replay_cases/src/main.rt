@@ -5,15 +5,13 @@
 // It prints the bytes taken, number, kind and place of each call that tells something, or takes not all; then the same of the calls behind: the number of an end, four numbers of a byte handed in, and the number of an end.
 #![tactic(auto)]
 
-ghost use Rattle.std.specs.Prelude.{◌≤◌};
-
 use codec::word_at;
 use replay::number::{accepted_cases, accepted_number, judged_kind, judged_number, judged_place};
 use std::io;
 use std::io::{Read, Stdin, Stdout};
 use stream::State;
 use stream::number::{end_number, told_kind, told_number, told_place};
-use trace::types::{Accepted, Judged, Told, Verdict};
+use trace::types::{CaseRefusal, Told, TraceRefusal, Verdict};
 
 // Nothing says that the input or the pieces of a trace end, so the loops count.
 const MOST: usize = 100000;
@@ -27,23 +25,20 @@ fn print_number(stdout: Stdout, n: usize) -> io::Result<()> {
     print!(stdout; "{n} ")
 }
 
-fn print_accepted(stdout: Stdout, accepted: Accepted) -> io::Result<()> {
+fn print_accepted(stdout: Stdout, accepted: Result<usize, TraceRefusal>) -> io::Result<()> {
     print_number(stdout, accepted_number(accepted) as usize)?;
     print_number(stdout, accepted_cases(accepted))
 }
 
 // The byte that the run leaves at a place that differs.
-fn expected_byte(judged: Judged) -> u8 {
-    let Judged::Case(verdict) = judged else {
-        return 0;
-    };
-    let Verdict::FileDiffers(_, expected) = verdict else {
-        return 0;
-    };
-    expected
+fn expected_byte(judged: Result<Verdict, CaseRefusal>) -> u8 {
+    match judged {
+        Ok(Verdict::FileDiffers(_, expected)) => expected,
+        _ => 0,
+    }
 }
 
-fn print_judged(stdout: Stdout, judged: Judged) -> io::Result<()> {
+fn print_judged(stdout: Stdout, judged: Result<Verdict, CaseRefusal>) -> io::Result<()> {
     print_number(stdout, judged_number(judged) as usize)?;
     print_number(stdout, judged_kind(judged) as usize)?;
     print_number(stdout, judged_place(judged))?;
@@ -60,28 +55,6 @@ struct Course {
     state: State,
 }
 
-fn least(a: usize, b: usize) -> usize
-    ensures { (result ≤ a) × (result ≤ b) }
-{
-    if a < b { a } else { b }
-}
-
-fn is_nothing(told: Told) -> bool {
-    if let Told::Nothing = told {
-        true
-    } else {
-        false
-    }
-}
-
-fn is_over(told: Told) -> bool {
-    if let Told::Over(_) = told {
-        true
-    } else {
-        false
-    }
-}
-
 fn print_told(stdout: Stdout, taken: usize, told: Told) -> io::Result<()> {
     print_number(stdout, taken)?;
     print_number(stdout, told_number(told) as usize)?;
@@ -91,7 +64,7 @@ fn print_told(stdout: Stdout, taken: usize, told: Told) -> io::Result<()> {
 
 // A call that tells nothing and takes all is not printed.
 fn print_fed(stdout: Stdout, given: usize, taken: usize, told: Told) -> io::Result<()> {
-    if is_nothing(told) && taken == given {
+    if told == Told::Nothing && taken == given {
         return Ok(());
     }
     print_told(stdout, taken, told)
@@ -99,16 +72,14 @@ fn print_fed(stdout: Stdout, given: usize, taken: usize, told: Told) -> io::Resu
 
 fn print_empty(stdout: Stdout, state: State) -> io::Result<State> {
     let fed = state.feed(b"");
-    let told = fed.told;
-    print_fed(stdout, 0, fed.taken, told)?;
+    print_fed(stdout, 0, fed.taken, fed.told)?;
     Ok(fed.state)
 }
 
 // An empty piece, and one of so many bytes or those that are left.
 fn hand_in(stdout: Stdout, trace: &[u8], size: usize, course: Course) -> io::Result<Course> {
     let at = course.at;
-    let before = course.state;
-    let state = print_empty(stdout, before)?;
+    let state = print_empty(stdout, course.state)?;
     if trace.len() < at {
         return Ok(Course {
             at,
@@ -117,24 +88,20 @@ fn hand_in(stdout: Stdout, trace: &[u8], size: usize, course: Course) -> io::Res
         });
     }
     let left = trace.len() - at;
-    let given = least(size, left);
-    let end = at + given;
-    let fed = state.feed(&trace[at..end]);
-    let told = fed.told;
-    let after = fed.state;
-    let taken = least(fed.taken, left);
-    print_fed(stdout, given, fed.taken, told)?;
+    let given = size.min(left);
+    let fed = state.feed(&trace[at..at + given]);
+    let taken = fed.taken.min(left);
+    print_fed(stdout, given, fed.taken, fed.told)?;
     Ok(Course {
         at: at + taken,
-        live: taken < left && !is_over(told),
-        state: after,
+        live: taken < left && !matches!(fed.told, Told::Over(_)),
+        state: fed.state,
     })
 }
 
 fn print_end(stdout: Stdout, state: State) -> io::Result<State> {
     let closed = state.end();
-    let end = closed.end;
-    print_number(stdout, end_number(end) as usize)?;
+    print_number(stdout, end_number(closed.end) as usize)?;
     Ok(closed.state)
 }
 
@@ -142,12 +109,8 @@ fn print_end(stdout: Stdout, state: State) -> io::Result<State> {
 fn print_ends(stdout: Stdout, state: State) -> io::Result<()> {
     let ended = print_end(stdout, state)?;
     let fed = ended.feed(b"\x01");
-    let told = fed.told;
-    let after = fed.state;
-    print_told(stdout, fed.taken, told)?;
-    let closed = after.end();
-    let end = closed.end;
-    println!(stdout; "{}", end_number(end))
+    print_told(stdout, fed.taken, fed.told)?;
+    println!(stdout; "{}", end_number(fed.state.end().end))
 }
 
 fn print_stream(stdout: Stdout, trace: &[u8], first: usize, step: usize) -> io::Result<()> {
@@ -163,8 +126,7 @@ fn print_stream(stdout: Stdout, trace: &[u8], first: usize, step: usize) -> io::
         }
         course = hand_in(stdout, trace, step, course)?;
     }
-    let last = course.state;
-    print_ends(stdout, last)
+    print_ends(stdout, course.state)
 }
 
 // ---- records
@@ -201,10 +163,6 @@ fn hand(stdout: Stdout, buffer: &[u8], size: usize, cut: usize) -> io::Result<bo
     Ok(true)
 }
 
-fn wide(x: u32) -> usize {
-    x as usize
-}
-
 fn work(
     stdin: Stdin,
     stdout: Stdout,
@@ -230,8 +188,8 @@ fn work_record(mut stdin: Stdin, stdout: Stdout, buffer: &mut [u8; ROOM]) -> io:
         stdin,
         stdout,
         word_at(&head, 0),
-        wide(word_at(&head, 4)),
-        wide(word_at(&head, 8)),
+        word_at(&head, 4) as usize,
+        word_at(&head, 8) as usize,
         buffer,
     )
 }

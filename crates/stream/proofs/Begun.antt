@@ -10,7 +10,9 @@ use borrow.Author.Tests.{lt-leb}
 use Rattle.isa.specs.Bytes.{words_of}
 use Rattle.isa.specs.File.{check_of}
 use Rattle.isa.specs.Run.{Outcome, start, run, checked_run, outcome_of}
-use Rattle.isa.specs.declared.types.Checked.{Checked}
+use Rattle.std.specs.Prelude.{Ok, Err}
+use Rattle.isa.specs.Check.{Check}
+use Rattle.isa.specs.declared.types.FileRefusal.{FileRefusal}
 use Rattle.trace.specs.Verdict.{parts_of}
 use Rattle.trace.specs.declared.types.Verdict.{Verdict}
 use Rattle.stream.specs.Body.{padded, ran_in, stop_said, standing_in, held_in, InBody}
@@ -22,12 +24,12 @@ record Idle (o : Outcome) : Type 0 where
   qc : o.answer.qc ≡ false
   said : (n : ℕ) → stop_said o.answer.ending n ≡ Verdict.Agrees
 
-idle-by : (L : ℕ) (c : Checked) → Idle (checked_run c L [] (start [] false))
+idle-by : (L : ℕ) (c : Check FileRefusal) → Idle (checked_run c L [] (start [] false))
 unfolding run
-idle-by L Checked.Passed = record { file = refl; qc = refl; said = λ n. refl }
-idle-by L Checked.BadLength = record { file = refl; qc = refl; said = λ n. refl }
-idle-by L Checked.NotPowerOfTwo = record { file = refl; qc = refl; said = λ n. refl }
-idle-by L Checked.BadSize = record { file = refl; qc = refl; said = λ n. refl }
+idle-by L (Ok passed) = record { file = refl; qc = refl; said = λ n. refl }
+idle-by L (Err FileRefusal.BadLength) = record { file = refl; qc = refl; said = λ n. refl }
+idle-by L (Err FileRefusal.NotPowerOfTwo) = record { file = refl; qc = refl; said = λ n. refl }
+idle-by L (Err FileRefusal.BadSize) = record { file = refl; qc = refl; said = λ n. refl }
 
 module _ (L W : ℕ) where
   idle : Idle (ran_in L W [])

@@ -12,7 +12,6 @@ use denote.Enum.Declared.{tag_of}
 use Rattle.trace.specs.Stream.{due_of, Status, then, start, over}
 use Rattle.trace.specs.Feed.{Fed, status_after, goes_on, feed_from, feed_of}
 use Rattle.trace.specs.declared.types.Told.{Told}
-use Rattle.trace.specs.declared.types.End.{End}
 use Rattle.trace.specs.contracts.types.Told.{the_type}
 use Rattle.trace.proofs.Live.{live-empty}
 use Rattle.stream.specs.Body.{padded}
@@ -26,6 +25,7 @@ use Rattle.stream.specs.declared.state.Stepped.{Stepped}
 use Rattle.stream.proofs.Padded.{padded-none}
 use Rattle.stream.specs.contracts.state.Phase.{the_type as phase-type}
 use Rattle.stream.proofs.Phases.{contents-ended, bodies-ended, listing-phase, over-phase}
+use Rattle.trace.specs.Stream.{End}
 
 -- ---- the image and the contents held together
 

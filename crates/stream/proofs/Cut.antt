@@ -11,7 +11,6 @@ use Rattle.trace.specs.Feed.{feed_of, told_of, Whole, Calls, none, rest, call}
 use Rattle.trace.specs.Streamed.{Streamed}
 use Rattle.trace.specs.declared.types.Verdict.{Verdict}
 use Rattle.trace.specs.declared.types.Told.{Told}
-use Rattle.trace.specs.declared.types.End.{End}
 use Rattle.trace.proofs.Contents.{begins-mono}
 use Rattle.trace.proofs.Live.{contents-whole}
 use Rattle.trace.proofs.Calls.{calls_same}
@@ -23,6 +22,7 @@ use Rattle.stream.specs.declared.state.Course.{Course}
 use Rattle.stream.specs.declared.state.State.{State}
 use Rattle.stream.specs.declared.state.Closed.{Closed}
 use Rattle.stream.proofs.Called.{feed-behind}
+use Rattle.trace.specs.Stream.{End}
 
 -- ---- a stream has one state
 

@@ -11,7 +11,9 @@ use lib.Seq.{length-take-le, take-append-le, drop-append-le}
 use borrow.Author.Tests.{leb-true, ltb-true, le-leb}
 use Rattle.isa.specs.File.{legal, check_of}
 use Rattle.isa.specs.Run.{start, ended, run, pick_outcome, checked_run, outcome_of}
-use Rattle.isa.specs.declared.types.Checked.{Checked}
+use Rattle.std.specs.Prelude.{Ok, Err}
+use Rattle.isa.specs.Check.{Check}
+use Rattle.isa.specs.declared.types.FileRefusal.{FileRefusal}
 use Rattle.isa.specs.declared.types.Ending.{Ending}
 use Rattle.isa.proofs.Fields.{and_left, and_right}
 use Rattle.isa.proofs.File.{legal-exact}
@@ -40,11 +42,9 @@ module _ (L : ℕ) (file : List ℕ) (qc : Bool) (words : List ℕ) (size : leng
   long-by true = size
   long-by false = run-kept L words (start file qc) size
 
-  check-by : (k : Checked) → length (checked_run k L words (start file qc)).file ≡ 4 * L
-  check-by Checked.Passed = long-by (ltb 4096 (length words))
-  check-by Checked.BadLength = size
-  check-by Checked.NotPowerOfTwo = size
-  check-by Checked.BadSize = size
+  check-by : (k : Check FileRefusal) → length (checked_run k L words (start file qc)).file ≡ 4 * L
+  check-by (Ok passed) = long-by (ltb 4096 (length words))
+  check-by (Err refusal) = size
 
   outcome-sized : length (outcome_of L file qc words).file ≡ 4 * L
   unfolding outcome_of

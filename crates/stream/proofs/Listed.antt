@@ -14,12 +14,10 @@ use Rattle.isa.specs.Bytes.{word_at}
 use Rattle.isa.specs.File.{legal}
 use Rattle.isa.proofs.File.{cases}
 use Rattle.replay.specs.Extent.{body_end}
-use Rattle.replay.specs.declared.contents.Extent.{Extent}
 use Rattle.trace.specs.Trace.{cases_of, length_at, count_at, start_at, contents_size, begins, field_allowed, number_allowed}
 use Rattle.trace.specs.Stream.{due_of, Listing, live, then}
 use Rattle.trace.specs.Returned.{EntryAllowed}
 use Rattle.trace.specs.declared.types.Told.{Told}
-use Rattle.trace.specs.declared.types.End.{End}
 use Rattle.trace.proofs.Contents.{contents-exact, cases-allowed, begins-short}
 use Rattle.trace.proofs.Prefix.{word-append, word-drop, begins-append}
 use Rattle.trace.proofs.Live.{listing-cases, listing-entry, quiet-listing, refused-listing, allowed-listing, on-listing, listed, number-ends}
@@ -31,6 +29,9 @@ use Rattle.stream.specs.declared.state.Marks.{Marks}
 use Rattle.stream.specs.declared.state.Stepped.{Stepped}
 use Rattle.stream.proofs.Padded.{padded-word, padded-none, padded-put}
 use Rattle.stream.proofs.Begun.{body-starts}
+use Rattle.trace.specs.declared.types.TraceRefusal.{TraceRefusal}
+use Rattle.trace.specs.Stream.{End}
+use Rattle.std.specs.Prelude.{Option, Some, None, Err}
 
 -- ---- the tests of an entry, by the number that is whole
 
@@ -80,9 +81,9 @@ module _ (h : List ℕ) (b : ℕ) (image contents : List ℕ) where
 
     -- the last byte of number i
     number_by : (i : ℕ) → length h ≡ 4 * i + 3 → (r : Stepped) → (number_allowed new i ≡ true → Brings r) →
-        (number_allowed new i ≡ false → r ≡ refused_on End.BadContents) → Brings r
+        (number_allowed new i ≡ false → r ≡ refused_on (Err TraceRefusal.BadContents)) → Brings r
     number_by i place r f g =
-        cases (number_allowed new i) f (λ e. brings-same r _ (g e) (brings-refusal End.BadContents (refused-listing h b i v place e)))
+        cases (number_allowed new i) f (λ e. brings-same r _ (g e) (brings-refusal (Err TraceRefusal.BadContents) (refused-listing h b i v place e)))
 
     -- ---- the number of cases
 
@@ -150,7 +151,7 @@ module _ (h : List ℕ) (b : ℕ) (image contents : List ℕ) where
 
         -- a length or a word count
         short-brings : j % 3 < 2 →
-            Brings (pick_stepped (number_allowed new (suc j)) (listed_on known due (length h + 1) (padded 4 [])) (refused_on End.BadContents))
+            Brings (pick_stepped (number_allowed new (suc j)) (listed_on known due (length h + 1) (padded 4 [])) (refused_on (Err TraceRefusal.BadContents)))
         short-brings f =
             let n = longer in
             let there : k < cases_of new = omega (arith, number-ends h b (suc j) v last) in
@@ -178,7 +179,7 @@ module _ (h : List ℕ) (b : ℕ) (image contents : List ℕ) where
 
         -- a start
         module _ (f : j % 3 ≡ 2) where
-          abbrev end : Extent
+          abbrev end : Option ℕ
           end = body_end (length_at new k) (count_at new k) (start_at new k) (begins new k)
 
           in-range : (ltb 1024 known || ltb 0x400_0000 due) ≡ false
@@ -196,11 +197,11 @@ module _ (h : List ℕ) (b : ℕ) (image contents : List ℕ) where
               let s = word-is (length h - 7) (12 + 12 * k) (omega arith) in
               rw (in-range, a, c, s, due-is k (omega arith))
 
-          end-allowed : EntryAllowed new k → end ≡ Extent.Ends (begins new (suc k))
+          end-allowed : EntryAllowed new k → end ≡ Some (begins new (suc k))
           unfolding body_end begins
           end-allowed e = rw (e.ok, le-leb (count_at new k) 4096 e.few, eq-eqb (start_at new k) (begins new k) e.start)
 
-          end_refused : number_allowed new (suc j) ≡ false → end ≡ Extent.Refused
+          end_refused : number_allowed new (suc j) ≡ false → end ≡ None
           unfolding body_end
           end_refused e = rw (sym (field_is 2 f) ∙ e, start_test (legal (length_at new k)) (leb (count_at new k) 4096))
 
@@ -261,9 +262,9 @@ picked-one : (t : Bool) (r s : Stepped) → r.taken ≡ 1 → s.taken ≡ 1 → 
 picked-one true r s e f = e
 picked-one false r s e f = f
 
-extent-taken : (e : Extent) (cases at : ℕ) → (extent_on e cases at).taken ≡ 1
-extent-taken (Extent.Ends end) cases at = picked-one (eqb (at + 1) (4 + 12 * cases)) _ _ refl refl
-extent-taken Extent.Refused cases at = refl
+extent-taken : (e : Option ℕ) (cases at : ℕ) → (extent_on e cases at).taken ≡ 1
+extent-taken (Some place) cases at = picked-one (eqb (at + 1) (4 + 12 * cases)) _ _ refl refl
+extent-taken None cases at = refl
 
 count-taken : (at : ℕ) (held : List ℕ) → (count_on at held).taken ≡ 1
 unfolding count_on
@@ -273,14 +274,14 @@ start-taken : (contents : List ℕ) (cases due at start : ℕ) → (start_on con
 unfolding start_on
 start-taken contents cases due at start =
     let e = body_end (word_at contents (at - 15)) (word_at contents (at - 11)) start due in
-    picked-one (ltb 1024 cases || ltb 0x400_0000 due) (refused_on End.BadContents) (extent_on e cases at) refl (extent-taken e cases at)
+    picked-one (ltb 1024 cases || ltb 0x400_0000 due) (refused_on (Err TraceRefusal.BadContents)) (extent_on e cases at) refl (extent-taken e cases at)
 
 number-taken : (contents : List ℕ) (cases due at : ℕ) → (number_on contents cases due at).taken ≡ 1
 unfolding number_on
 number-taken contents cases due at =
     let n = word_at contents (at - 7) in
     let t = (legal n && eqb ((at - 4) % 12) 3) || (leb n 4096 && eqb ((at - 4) % 12) 7) in
-    picked-one (eqb ((at - 4) % 12) 11) _ (pick_stepped t (listed_on cases due (at + 1) (padded 4 [])) (refused_on End.BadContents))
+    picked-one (eqb ((at - 4) % 12) 11) _ (pick_stepped t (listed_on cases due (at + 1) (padded 4 [])) (refused_on (Err TraceRefusal.BadContents)))
     (start-taken contents cases due at n) (picked-one t _ _ refl refl)
 
 -- ---- by the marks ahead of the byte
@@ -343,7 +344,7 @@ module _ (contents : List ℕ) (m : Marks) (b : ℕ) where
     pub count-lists : m.course.at < 4 → r ≡ count_on m.course.at (set m.course.held (m.course.at % 4) b) → OneTaken contents
     count-lists l e = one-lists _ contents e (count-taken _ _) (λ h image v kept. count-behind h image v kept l)
 
-    pub past-lists : 12292 ≤ m.course.at → r ≡ refused_on End.BadContents → OneTaken contents
+    pub past-lists : 12292 ≤ m.course.at → r ≡ refused_on (Err TraceRefusal.BadContents) → OneTaken contents
     past-lists l e = one-lists _ contents e refl (λ h image v kept. absurd (past-never h image v kept l))
 
     module _ (l : 4 ≤ m.course.at) where

@@ -3,18 +3,19 @@
 use mathlib.Core.Path.{◌≡◌, refl, sym, ap, ap₂, subst, ◌∙◌}
 use mathlib.Core.List.{List, [], ◌∷◌, ◌++◌, append_assoc}
 use mathlib.Core.Bool.{Bool, true, false, ◌&&◌, ◌||◌, true≢false}
-use Prim.Native.Nat.{ℕ, ◌+◌, ◌*◌, ◌-◌, ◌/◌, ◌%◌, ◌<◌, ◌≤◌}
+use Prim.Native.Nat.{ℕ, ◌+◌, ◌*◌, ◌-◌, ◌/◌, ◌%◌, ◌<◌, ◌≤◌, min}
 use native.Mathlib.Omega.{arith}
 use native.Mathlib.Decide.{dec_le}
 use lib.Dec.{leb, ltb}
 use lib.ListN.{length, get_or, set, take, drop, length-append, length-take, length-drop, drop_of_length-le, take-append-drop}
 use lib.Seq.{take_all, drop-append-le, drop-drop}
-use borrow.Author.Tests.{leb-true, ltb-true, le-leb, lt-leb, lt-ltb, le-ltb}
+use borrow.Author.Tests.{leb-true, leb-false, ltb-true, le-leb, lt-leb, lt-ltb, le-ltb}
 use Rattle.isa.specs.Bytes.{word_at, words_of}
 use Rattle.isa.specs.Run.{Outcome, start}
 use Rattle.isa.proofs.Bytes.{words-length}
 use Rattle.isa.proofs.Fields.{and_left, and_right}
-use Rattle.isa.proofs.File.{legal-exact}
+use Rattle.isa.proofs.File.{legal-exact, cases}
+use Rattle.std.proofs.Math.Nat.{min-eq_left, min-eq_right}
 use Rattle.isa.proofs.FileChecks.{check-passed}
 use Rattle.isa.proofs.Going.{outcome-runs}
 use Rattle.trace.specs.Verdict.{parts_of, is_flag, flag_of}
@@ -26,6 +27,12 @@ use Rattle.stream.specs.declared.state.Course.{Course}
 use Rattle.stream.proofs.Padded.{padded-take, part-padded, padded-front, padded-put, padded-store, padded-whole}
 use Rattle.stream.proofs.Ran.{file-early, standing-early, before-append, words-move, ran-partial, ran-behind}
 use Rattle.stream.proofs.Said.{flag-moves, left-moves}
+
+-- the bytes of a part that come: as many as it lacks, or all
+pub least-of : (n have lack : ℕ) → n ≡ min have lack → (n ≤ lack) × (n ≤ have) × (0 < lack → 0 < have → 0 < n) × (lack % 4 ≡ 0 → have % 4 ≡ 0 → n % 4 ≡ 0)
+least-of n have lack e = cases (leb have lack)
+    (λ t. let q : n ≡ have = e ∙ min-eq_left (leb-true have lack t) in (omega (arith, leb-true have lack t), omega arith, λ a b. omega arith, λ a b. ap (λ k. k % 4) q ∙ b))
+    (λ f. let l = leb-false have lack f in let q : n ≡ lack = e ∙ min-eq_right (omega arith) in (omega arith, omega arith, λ a b. omega arith, λ a b. ap (λ k. k % 4) q ∙ a))
 
 -- ---- the run leaves a whole file
 

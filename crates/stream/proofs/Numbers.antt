@@ -11,11 +11,11 @@ use Rattle.isa.specs.Bytes.{word_at}
 use Rattle.isa.specs.File.{legal}
 use Rattle.isa.proofs.Fields.{and_right}
 use Rattle.replay.specs.Extent.{body_end}
-use Rattle.replay.specs.declared.contents.Extent.{Extent}
-use Rattle.trace.specs.declared.types.End.{End}
 use Rattle.stream.specs.Contents.{refused_on, listed_on, opened_on, count_on, start_on, number_on}
 use Rattle.stream.specs.declared.state.Stepped.{Stepped}
 use Rattle.stream.proofs.Padded.{padded-none}
+use Rattle.trace.specs.declared.types.TraceRefusal.{TraceRefusal}
+use Rattle.std.specs.Prelude.{Some, None, Err}
 
 pub count-few : (n : ℕ) → (leb 1 n && leb n 1024) ≡ true → n ≤ 1024
 count-few n t = leb-true n 1024 (and_right (leb 1 n) (leb n 1024) t)
@@ -30,7 +30,7 @@ module _ (at : ℕ) (held : List ℕ) where
     unfolding count_on
     count-listed t end f = rw (le-ltb at 3 l, ← e, t, f, padded-none 4)
 
-    pub count-refused : (leb 1 n && leb n 1024) ≡ false → refused_on End.BadContents ≡ count_on at held
+    pub count-refused : (leb 1 n && leb n 1024) ≡ false → refused_on (Err TraceRefusal.BadContents) ≡ count_on at held
     unfolding count_on
     count-refused t = rw (le-ltb at 3 l, ← e, t)
 
@@ -44,16 +44,16 @@ start_small cases due t =
     (ltb-false 1024 cases both.0, ltb-false 0x400_0000 due both.1)
 
 module _ (contents : List ℕ) (cases due at start : ℕ) where
-  pub start-free : (ltb 1024 cases || ltb 0x400_0000 due) ≡ true → refused_on End.BadContents ≡ start_on contents cases due at start
+  pub start-free : (ltb 1024 cases || ltb 0x400_0000 due) ≡ true → refused_on (Err TraceRefusal.BadContents) ≡ start_on contents cases due at start
   unfolding start_on
   start-free t = rw t
 
   module _ (t : (ltb 1024 cases || ltb 0x400_0000 due) ≡ false) (l w : ℕ) (e : l ≡ word_at contents (at - 15)) (f : w ≡ word_at contents (at - 11)) where
-    pub start-refused : body_end l w start due ≡ Extent.Refused → refused_on End.BadContents ≡ start_on contents cases due at start
+    pub start-refused : body_end l w start due ≡ None → refused_on (Err TraceRefusal.BadContents) ≡ start_on contents cases due at start
     unfolding start_on
     start-refused g = rw (t, ← e, ← f, g)
 
-    module _ (end : ℕ) (g : body_end l w start due ≡ Extent.Ends end) (last : ℕ) (p : last ≡ 4 + 12 * cases) where
+    module _ (end : ℕ) (g : body_end l w start due ≡ Some end) (last : ℕ) (p : last ≡ 4 + 12 * cases) where
       pub start-opens : at + 1 ≡ last → opened_on cases end ≡ start_on contents cases due at start
       unfolding start_on
       start-opens s = rw (t, ← e, ← f, g, eq-eqb _ _ (s ∙ p))
@@ -74,6 +74,6 @@ module _ (contents : List ℕ) (cases due at n : ℕ) (e : n ≡ word_at content
     number-on t = rw (ne_eqb _ _ c, ← e, ← f, t, padded-none 4)
 
     pub number-refused : ((ok && eqb ((at - 4) % 12) 3) || (leb n 4096 && eqb ((at - 4) % 12) 7)) ≡ false →
-        refused_on End.BadContents ≡ number_on contents cases due at
+        refused_on (Err TraceRefusal.BadContents) ≡ number_on contents cases due at
     unfolding number_on
     number-refused t = rw (ne_eqb _ _ c, ← e, ← f, t)

@@ -7,12 +7,14 @@ use Prim.Native.Nat.{ℕ}
 use native.Mathlib.Omega.{arith}
 use Rattle.trace.specs.Trace.{cases_of}
 use Rattle.trace.specs.Stream.{close_of, Within}
-use Rattle.trace.specs.declared.types.End.{End}
 use Rattle.trace.proofs.Live.{close-listing, close-within, close-past}
 use Rattle.stream.specs.Kept.{KeptListing, KeptOver, listing, within, ended}
 use Rattle.stream.specs.Steps.{ClosesMarks}
 use Rattle.stream.specs.declared.state.Phase.{Phase}
 use Rattle.stream.specs.declared.state.Marks.{Marks}
+use Rattle.trace.specs.declared.types.TraceRefusal.{TraceRefusal}
+use Rattle.trace.specs.Stream.{End}
+use Rattle.std.specs.Prelude.{Ok, Err}
 
 -- no two phases are the same
 module _ {A : Type 0} {p : Phase} where
@@ -34,7 +36,7 @@ over-phase kept = ap (λ (m : Marks). m.phase) kept.marks
 -- ---- an end
 
 module _ (m : Marks) where
-  pub close-contents : m.phase ≡ Phase.Contents → ClosesMarks m End.BadContents
+  pub close-contents : m.phase ≡ Phase.Contents → ClosesMarks m (Err TraceRefusal.BadContents)
   close-contents p image contents _ (listing h v kept) = sym (close-listing h v)
   close-contents p image contents _ (within h k v kept) = contents-bodies p kept.phase
   close-contents p image contents _ (ended e kept) = contents-ended p (over-phase kept)
@@ -45,11 +47,11 @@ module _ (m : Marks) where
     close-bodies image contents _ (within h k v kept) = in-bodies h k v kept.cases kept.case
     close-bodies image contents _ (ended e kept) = bodies-ended p (over-phase kept)
 
-  pub close-whole : m.phase ≡ Phase.Bodies → m.case ≡ m.cases → ClosesMarks m End.Complete
-  close-whole p e = close-bodies p End.Complete (λ h k v c d. let all : k ≡ cases_of h = omega arith in sym (close-past h (rw all at v)))
+  pub close-whole : m.phase ≡ Phase.Bodies → m.case ≡ m.cases → ClosesMarks m (Ok tt)
+  close-whole p e = close-bodies p (Ok tt) (λ h k v c d. let all : k ≡ cases_of h = omega arith in sym (close-past h (rw all at v)))
 
-  pub close-short : m.phase ≡ Phase.Bodies → (m.case ≡ m.cases → ⊥) → ClosesMarks m End.BadTotal
-  close-short p e = close-bodies p End.BadTotal (λ h k v c d. sym (close-within h k v (omega (arith, v.few, e))))
+  pub close-short : m.phase ≡ Phase.Bodies → (m.case ≡ m.cases → ⊥) → ClosesMarks m (Err TraceRefusal.BadTotal)
+  close-short p e = close-bodies p (Err TraceRefusal.BadTotal) (λ h k v c d. sym (close-within h k v (omega (arith, v.few, e))))
 
   pub close-ended : (e : End) → m.phase ≡ Phase.Ended e → ClosesMarks m e
   close-ended e p image contents _ (listing h v kept) = contents-ended (listing-phase kept) p

@@ -13,7 +13,9 @@ use Rattle.isa.specs.Bytes.{words_of}
 use Rattle.isa.specs.Decode.{decode_of}
 use Rattle.isa.specs.File.{legal, check_of}
 use Rattle.isa.specs.Run.{State, start, after, Outcome, run, checked_run, outcome_of}
-use Rattle.isa.specs.declared.types.Checked.{Checked}
+use Rattle.std.specs.Prelude.{Ok, Err}
+use Rattle.isa.specs.Check.{Check}
+use Rattle.isa.specs.declared.types.FileRefusal.{FileRefusal}
 use Rattle.isa.specs.declared.types.Decoded.{Decoded}
 use Rattle.isa.specs.declared.types.Ending.{Ending}
 use Rattle.isa.specs.declared.types.Op.{Op}
@@ -117,11 +119,11 @@ idle : (L : ℕ) (file : List ℕ) (qc : Bool) → Idle file qc (outcome_of L fi
 unfolding outcome_of run
 idle L file qc = by-check (check_of L (length file))
   where
-    by-check : (c : Checked) → Idle file qc (checked_run c L [] (start file qc))
-    by-check Checked.Passed = record { file = refl; qc = refl; said = refl }
-    by-check Checked.BadLength = record { file = refl; qc = refl; said = refl }
-    by-check Checked.NotPowerOfTwo = record { file = refl; qc = refl; said = refl }
-    by-check Checked.BadSize = record { file = refl; qc = refl; said = refl }
+    by-check : (c : Check FileRefusal) → Idle file qc (checked_run c L [] (start file qc))
+    by-check (Ok passed) = record { file = refl; qc = refl; said = refl }
+    by-check (Err FileRefusal.BadLength) = record { file = refl; qc = refl; said = refl }
+    by-check (Err FileRefusal.NotPowerOfTwo) = record { file = refl; qc = refl; said = refl }
+    by-check (Err FileRefusal.BadSize) = record { file = refl; qc = refl; said = refl }
 
 -- one of two that are the same
 pick_same : (t : Bool) (a : List ℕ) → a ≡ [] → pick_bytes t a [] ≡ []

@@ -12,7 +12,6 @@ use borrow.Author.Tests.{le-leb, lt-ltb}
 use Rattle.isa.specs.Bytes.{word_at}
 use Rattle.trace.specs.Trace.{cases_of, length_at, count_at, body_size, begins}
 use Rattle.trace.specs.Stream.{Within}
-use Rattle.trace.specs.declared.types.End.{End}
 use Rattle.trace.proofs.Contents.{contents-exact}
 use Rattle.trace.proofs.Live.{contents-whole, past-within}
 use Rattle.trace.proofs.Prefix.{word-append, word-drop}
@@ -22,6 +21,9 @@ use Rattle.stream.specs.Steps.{allowed_at, JudgesCase, Judges}
 use Rattle.stream.specs.declared.state.Marks.{Marks}
 use Rattle.stream.specs.declared.state.Stepped.{Stepped}
 use Rattle.stream.proofs.Padded.{padded-word}
+use Rattle.trace.specs.declared.types.TraceRefusal.{TraceRefusal}
+use Rattle.trace.specs.Stream.{End}
+use Rattle.std.specs.Prelude.{Err}
 
 -- ---- the image comes before the contents
 
@@ -76,7 +78,7 @@ module _ (held : List ℕ) (m : Marks) (h : List ℕ) (k : ℕ) (v : Within h k)
 -- ---- bytes of the bodies
 
 module _ (held : List ℕ) (m : Marks) (bytes : List ℕ) (r : Stepped) where
-  pub rows-past : 0 < length bytes → m.cases ≤ m.case → r ≡ refused_on End.BadTotal → Judges held m bytes r held
+  pub rows-past : 0 < length bytes → m.cases ≤ m.case → r ≡ refused_on (Err TraceRefusal.BadTotal) → Judges held m bytes r held
   rows-past some all e h k v kept =
       let last : k ≡ cases_of h = omega (arith, kept.case, kept.cases, v.few) in
       rw (e, first_byte bytes some) (record {

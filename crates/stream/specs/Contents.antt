@@ -3,13 +3,14 @@ use Rattle.std.specs.Prelude.{ℕ, ◌+◌, ◌*◌, ◌-◌, ◌%◌, List, [],
 use Rattle.isa.specs.Bytes.{word_at}
 use Rattle.isa.specs.File.{legal}
 use Rattle.replay.specs.Extent.{body_end}
-use Rattle.replay.specs.declared.contents.Extent.{Extent}
 use Rattle.trace.specs.declared.types.Told.{Told}
-use Rattle.trace.specs.declared.types.End.{End}
 use Rattle.stream.specs.Body.{padded}
 use Rattle.stream.specs.Kept.{course_at, fresh_course, ended_marks}
 use Rattle.stream.specs.declared.state.Phase.{Phase}
 use Rattle.stream.specs.declared.state.Stepped.{Stepped}
+use Rattle.trace.specs.declared.types.TraceRefusal.{TraceRefusal}
+use Rattle.trace.specs.Stream.{End}
+use Rattle.std.specs.Prelude.{Option, Some, None, Err}
 
 abbrev pub pick_stepped : Bool → Stepped → Stepped → Stepped
 pick_stepped true a b = a
@@ -28,19 +29,19 @@ opened_on cases end =
 
 -- of the number of cases
 abbrev pub counted_on : ℕ → Stepped
-counted_on n = pick_stepped (leb 1 n && leb n 1024) (listed_on n (4 + 12 * n) 4 (padded 4 [])) (refused_on End.BadContents)
+counted_on n = pick_stepped (leb 1 n && leb n 1024) (listed_on n (4 + 12 * n) 4 (padded 4 [])) (refused_on (Err TraceRefusal.BadContents))
 
 unfoldable pub count_on : ℕ → List ℕ → Stepped
 count_on at held = pick_stepped (ltb at 3) (listed_on 0 0 (at + 1) held) (counted_on (word_at held 0))
 
 -- of an entry, where the contents have as many bytes
-abbrev pub extent_on : Extent → ℕ → ℕ → Stepped
-extent_on (Extent.Ends end) cases at = pick_stepped (eqb (at + 1) (4 + 12 * cases)) (opened_on cases end) (listed_on cases end (at + 1) (padded 4 []))
-extent_on Extent.Refused cases at = refused_on End.BadContents
+abbrev pub extent_on : Option ℕ → ℕ → ℕ → Stepped
+extent_on (Some end) cases at = pick_stepped (eqb (at + 1) (4 + 12 * cases)) (opened_on cases end) (listed_on cases end (at + 1) (padded 4 []))
+extent_on None cases at = refused_on (Err TraceRefusal.BadContents)
 
 unfoldable pub start_on : List ℕ → ℕ → ℕ → ℕ → ℕ → Stepped
 start_on contents cases due at start =
-    pick_stepped (ltb 1024 cases || ltb 0x400_0000 due) (refused_on End.BadContents)
+    pick_stepped (ltb 1024 cases || ltb 0x400_0000 due) (refused_on (Err TraceRefusal.BadContents))
     (extent_on (body_end (word_at contents (at - 15)) (word_at contents (at - 11)) start due) cases at)
 
 unfoldable pub number_on : List ℕ → ℕ → ℕ → ℕ → Stepped
@@ -48,4 +49,4 @@ number_on contents cases due at =
     pick_stepped (eqb ((at - 4) % 12) 11) (start_on contents cases due at (word_at contents (at - 7)))
     (pick_stepped ((legal (word_at contents (at - 7)) && eqb ((at - 4) % 12) 3) || (leb (word_at contents (at - 7)) 4096 && eqb ((at - 4) % 12) 7))
     (listed_on cases due (at + 1) (padded 4 []))
-    (refused_on End.BadContents))
+    (refused_on (Err TraceRefusal.BadContents)))

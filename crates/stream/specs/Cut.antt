@@ -2,10 +2,10 @@
 use Rattle.std.specs.Prelude.{◌≡◌, List, [], ◌∷◌, ◌++◌, ℕ, drop}
 use Rattle.trace.specs.declared.types.Verdict.{Verdict}
 use Rattle.trace.specs.declared.types.Told.{Told}
-use Rattle.trace.specs.declared.types.End.{End}
 use Rattle.stream.specs.Kept.{Feeds}
 use Rattle.stream.specs.declared.state.State.{State}
 use Rattle.stream.specs.declared.state.Fed.{Fed}
+use Rattle.trace.specs.Stream.{End}
 
 -- the verdict that a call hands out, ahead of the later ones
 abbrev pub handed : Told → List Verdict → List Verdict

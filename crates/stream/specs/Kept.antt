@@ -5,7 +5,6 @@ use Rattle.trace.specs.Trace.{cases_of, length_at, count_at, begins, total_of}
 use Rattle.trace.specs.Stream.{Listing, Within, Status, live, over}
 use Rattle.trace.specs.Feed.{feed_of, end_of, Fed as Feeding}
 use Rattle.trace.specs.declared.types.Verdict.{Verdict}
-use Rattle.trace.specs.declared.types.End.{End}
 use Rattle.stream.specs.Body.{padded, pick_number, pick_bytes, InBody}
 use Rattle.stream.specs.declared.state.Phase.{Phase}
 use Rattle.stream.specs.declared.state.Standing.{Standing}
@@ -14,6 +13,7 @@ use Rattle.stream.specs.declared.state.Marks.{Marks}
 use Rattle.stream.specs.declared.state.State.{State}
 use Rattle.stream.specs.declared.state.Fed.{Fed}
 use Rattle.stream.specs.declared.state.Closed.{Closed}
+use Rattle.trace.specs.Stream.{End}
 
 abbrev pub fresh_standing : Standing
 fresh_standing = record { said = Verdict.Agrees; qc = false }

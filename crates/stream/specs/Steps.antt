@@ -9,13 +9,13 @@ use Rattle.trace.specs.Stream.{due_of, Listing, Within, Status, live, over}
 use Rattle.trace.specs.Feed.{Fed, status_after, feed_from, feed_of, end_of}
 use Rattle.trace.specs.declared.types.Verdict.{Verdict}
 use Rattle.trace.specs.declared.types.Told.{Told}
-use Rattle.trace.specs.declared.types.End.{End}
 use Rattle.stream.specs.Body.{stop_said, Stands, InBody}
 use Rattle.stream.specs.Kept.{ended_marks, KeptListing, KeptWithin, Kept}
 use Rattle.stream.specs.declared.state.Standing.{Standing}
 use Rattle.stream.specs.declared.state.Course.{Course}
 use Rattle.stream.specs.declared.state.Marks.{Marks}
 use Rattle.stream.specs.declared.state.Stepped.{Stepped}
+use Rattle.trace.specs.Stream.{End}
 
 -- ---- a case
 

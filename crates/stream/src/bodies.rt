@@ -5,12 +5,11 @@ ghost use Rattle.trace.specs.Trace.{body_size};
 ghost use Rattle.stream.specs.Steps.{Allowed, allowed_at, Judges, JudgesCase};
 
 use crate::body::body_bytes;
-use crate::bytes::clear;
-use crate::state::{Course, IMAGE, Marks, Phase, Stepped, fresh, refuse};
+use crate::state::{Course, IMAGE, Marks, Phase, Stepped};
 use codec::word_at;
 use regfile::check::is_legal;
 use replay::contents::{body_size, wide};
-use trace::types::{End, Told};
+use trace::types::{Told, TraceRefusal};
 
 // Marks within the bodies.
 fn bodies(m: Marks, case: usize, course: Course) -> Marks
@@ -31,19 +30,15 @@ fn case_bytes(image: &mut [u8], l: usize, w: usize, m: Marks, bytes: &[u8]) -> S
     requires allowed { Allowed l w × (m.course.at < body_size l w) }
     ensures { (1 ≤ result.taken) × (result.taken ≤ length bytes.now) × JudgesCase l w image.old m bytes.now result image.new }
 {
-    let begun = m.course;
-    let moved = body_bytes(image, l, w, begun, bytes);
+    let moved = body_bytes(image, l, w, m.course, bytes);
     let course = moved.course;
     let case = m.case;
     if course.at == body_size(l, w) {
-        let size = l << 2;
-        let standing = course.standing;
-        let said = standing.said;
-        clear(&mut image[..size]);
+        image[..l << 2].fill(0);
         return Stepped {
             taken: moved.taken,
-            told: Told::Case(said),
-            marks: bodies(m, case + 1, fresh()),
+            told: Told::Case(course.standing.said),
+            marks: bodies(m, case + 1, Course::fresh()),
         };
     }
     Stepped {
@@ -70,7 +65,7 @@ pub fn bodies_bytes(held: &mut [u8], m: Marks, bytes: &[u8]) -> Stepped
 {
     let case = m.case;
     if m.cases <= case {
-        return refuse(End::BadTotal);
+        return Stepped::refused(TraceRefusal::BadTotal);
     }
     if case < 1024 {
         let row = IMAGE + (case << 3) + (case << 2);
@@ -81,5 +76,5 @@ pub fn bodies_bytes(held: &mut [u8], m: Marks, bytes: &[u8]) -> Stepped
         }
     }
     // No stream leaves this.
-    refuse(End::BadContents)
+    Stepped::refused(TraceRefusal::BadContents)
 }

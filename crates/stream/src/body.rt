@@ -7,19 +7,12 @@ use crate::bytes::with_byte;
 use crate::case::{compare, execute, flag_after, flag_before};
 use crate::state::{Course, Standing};
 use codec::word_at;
-use replay::body::load;
 
 // How many bytes were taken, and how far the body has come.
 #[derive(Clone, Copy)]
 pub struct Moved {
     pub taken: usize,
     pub course: Course,
-}
-
-fn least(a: usize, b: usize) -> usize
-    ensures { (result ≤ a) × (result ≤ b) × (0 < a → 0 < b → 0 < result) × (a % 4 ≡ 0 → b % 4 ≡ 0 → result % 4 ≡ 0) }
-{
-    if a < b { a } else { b }
 }
 
 // Where the words of a body stand: behind QC before and the file before.
@@ -62,11 +55,9 @@ fn number_byte(image: &mut [u8], l: usize, w: usize, c: Course, b: u8) -> Course
     ensures { BytesMove l w (b ∷ []) image.old c image.new result }
 {
     let at = c.at;
-    let bytes = c.held;
-    let s = c.standing;
-    let held = with_byte(bytes, at, b);
+    let held = with_byte(c.held, at, b);
     if at % 4 == 3 {
-        let standing = number(image, l, w, at + 1, s, &held);
+        let standing = number(image, l, w, at + 1, c.standing, &held);
         return Course {
             at: at + 1,
             held: [0u8; 4],
@@ -76,7 +67,7 @@ fn number_byte(image: &mut [u8], l: usize, w: usize, c: Course, b: u8) -> Course
     Course {
         at: at + 1,
         held,
-        standing: s,
+        ..c
     }
 }
 
@@ -87,15 +78,9 @@ fn file_bytes(image: &mut [u8], l: usize, c: Course, bytes: &[u8]) -> Course
     ensures { (W : ℕ) → BytesMove l W bytes.now image.old c image.new result }
 {
     let at = c.at;
-    let held = c.held;
-    let standing = c.standing;
     let to = at + bytes.len();
-    load(&mut image[at - 4..to - 4], bytes);
-    Course {
-        at: to,
-        held,
-        standing,
-    }
+    image[at - 4..to - 4].copy_from_slice(bytes);
+    Course { at: to, ..c }
 }
 
 // Whole words.
@@ -106,15 +91,13 @@ fn word_bytes(image: &mut [u8], l: usize, w: usize, c: Course, bytes: &[u8]) -> 
     ensures { BytesMove l w bytes.now image.old c image.new result }
 {
     let at = c.at;
-    let held = c.held;
-    let s = c.standing;
     let size = l << 2;
     let done = (at - words_place(l)) >> 2;
-    let standing = execute(&mut image[..size], l, done, s, bytes);
+    let standing = execute(&mut image[..size], l, done, c.standing, bytes);
     Course {
         at: at + bytes.len(),
-        held,
         standing,
+        ..c
     }
 }
 
@@ -124,15 +107,12 @@ fn left_bytes(image: &[u8], l: usize, from: usize, c: Course, bytes: &[u8]) -> C
     requires at_bound { (c.at ≤ 32776) × (from + length bytes.now ≤ 4 * l) }
     ensures { (W : ℕ) → Allowed l W → c.at ≡ 8 + 4 * l + 4 * W + from → BytesMove l W bytes.now image.now c image.now result }
 {
-    let at = c.at;
-    let held = c.held;
-    let s = c.standing;
     let to = from + bytes.len();
-    let standing = compare(&image[from..to], from, s, bytes);
+    let standing = compare(&image[from..to], from, c.standing, bytes);
     Course {
-        at: at + bytes.len(),
-        held,
+        at: c.at + bytes.len(),
         standing,
+        ..c
     }
 }
 
@@ -154,18 +134,18 @@ pub fn body_bytes(image: &mut [u8], l: usize, w: usize, c: Course, bytes: &[u8])
     let words = words_place(l);
     let flag = flag_place(l, w);
     if (4 <= at) & (at < words) {
-        let n = least(words - at, bytes.len());
+        let n = bytes.len().min(words - at);
         let course = file_bytes(image, l, c, &bytes[..n]);
         return Moved { taken: n, course };
     }
     if flag + 4 <= at {
         let from = at - flag - 4;
-        let n = least((l << 2) - from, bytes.len());
+        let n = bytes.len().min((l << 2) - from);
         let course = left_bytes(image, l, from, c, &bytes[..n]);
         return Moved { taken: n, course };
     }
     if at_words(l, w, at, bytes.len()) {
-        let n = least(flag - at, bytes.len() - bytes.len() % 4);
+        let n = (bytes.len() - bytes.len() % 4).min(flag - at);
         let course = word_bytes(image, l, w, c, &bytes[..n]);
         return Moved { taken: n, course };
     }

@@ -1,5 +1,5 @@
-// Bytes that are held: those of a file, of the contents, and of a number that is not whole yet.
-ghost use Rattle.std.specs.Prelude.{◌≡◌, ◌%◌, length, set, replicate};
+// The bytes of a number that is not whole yet.
+ghost use Rattle.std.specs.Prelude.{◌≡◌, ◌%◌, length, set};
 
 // The bytes of a number with one more, which is byte `at` of the contents or of a body. All that stands before a number there is a multiple of four bytes,
 // so `at % 4` is its place.
@@ -9,13 +9,4 @@ pub fn with_byte(held: [u8; 4], at: usize, b: u8) -> [u8; 4]
     let mut next = held;
     next[at % 4] = b;
     next
-}
-
-// Zeros.
-pub fn clear(part: &mut [u8])
-    ensures { part.new ≡ replicate (length part.old) 0 }
-{
-    for i in 0..part.len() {
-        part[i] = 0;
-    }
 }

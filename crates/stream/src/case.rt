@@ -32,13 +32,9 @@ fn stopped(ending: Ending, done: usize) -> Verdict
     ensures { result ≡ stop_said ending done }
 {
     match ending {
-        Ending::Done => Verdict::Agrees,
-        Ending::BadLength => Verdict::Agrees,
-        Ending::NotPowerOfTwo => Verdict::Agrees,
-        Ending::BadSize => Verdict::Agrees,
-        Ending::TooLong => Verdict::Agrees,
         Ending::Outside => Verdict::Outside(done),
         Ending::Reserved => Verdict::Reserved(done),
+        _ => Verdict::Agrees,
     }
 }
 
@@ -47,14 +43,12 @@ pub fn execute(file: &mut [u8], l: usize, done: usize, s: Standing, words: &[u8]
     requires { Held l file.old × (length words.now ≤ 16384) × (done ≤ 4096) }
     ensures { record { standing = result; file = file.new } ≡ worked l done s file.old words.now }
 {
-    let said = s.said;
-    let Verdict::Agrees = said else {
+    let Verdict::Agrees = s.said else {
         return s;
     };
     let ran = run_bytes(l, file, s.qc, words);
-    let ending = ran.ending;
     Standing {
-        said: stopped(ending, done + ran.done),
+        said: stopped(ran.ending, done + ran.done),
         qc: ran.qc,
     }
 }
@@ -64,18 +58,17 @@ pub fn flag_after(s: Standing, n: u32) -> Standing
     ensures { result ≡ standing_after s n }
 {
     if n < 2 {
-        let said = s.said;
-        let Verdict::Agrees = said else {
+        let Verdict::Agrees = s.said else {
             return s;
         };
         return Standing {
             said: flags(s.qc, n == 1),
-            qc: s.qc,
+            ..s
         };
     }
     Standing {
         said: Verdict::BadFlag,
-        qc: s.qc,
+        ..s
     }
 }
 
@@ -83,14 +76,7 @@ pub fn flag_after(s: Standing, n: u32) -> Standing
 fn is_open(said: Verdict) -> bool
     ensures { result ≡ pick_open said true false }
 {
-    match said {
-        Verdict::Agrees => true,
-        Verdict::FileDiffers(_, _) => false,
-        Verdict::FlagDiffers => true,
-        Verdict::Outside(_) => false,
-        Verdict::Reserved(_) => false,
-        Verdict::BadFlag => false,
-    }
+    matches!(said, Verdict::Agrees | Verdict::FlagDiffers)
 }
 
 // Bytes of the file after, beside those that the run left, which are the file's from byte `from` on.
@@ -98,13 +84,12 @@ pub fn compare(left: &[u8], from: usize, s: Standing, bytes: &[u8]) -> Standing
     requires { (length bytes.now ≡ length left.now) × (from + length left.now ≤ 8192) }
     ensures { result ≡ standing_beside s from left.now bytes.now }
 {
-    let said = s.said;
-    if is_open(said) {
+    if is_open(s.said) {
         let i = first_difference(left, bytes);
         if i < left.len() {
             return Standing {
                 said: Verdict::FileDiffers(from + i, left[i]),
-                qc: s.qc,
+                ..s
             };
         }
     }

@@ -4,11 +4,11 @@ ghost use Rattle.stream.specs.Contents.{listed_on, count_on, opened_on, start_on
 ghost use Rattle.stream.specs.Steps.{Lists};
 
 use crate::bytes::with_byte;
-use crate::state::{Marks, Phase, Stepped, course_at, fresh, refuse};
+use crate::state::{Course, Marks, Phase, Stepped};
 use codec::word_at;
 use regfile::check::is_legal;
-use replay::contents::{Extent, body_end, entry_place, wide};
-use trace::types::{End, Told};
+use replay::contents::{body_end, entry_place, wide};
+use trace::types::{Told, TraceRefusal};
 
 // The contents end at or before this byte: 1,024 entries of 12 bytes behind the number of cases.
 const LONGEST_CONTENTS: usize = 12292;
@@ -28,7 +28,7 @@ fn on(cases: usize, due: usize, at: usize, held: [u8; 4]) -> Stepped
             cases,
             case: 0,
             due,
-            course: course_at(at, held),
+            course: Course::new(at, held),
         },
     }
 }
@@ -45,7 +45,7 @@ fn opened(cases: usize, end: usize) -> Stepped
             cases,
             case: 0,
             due: end,
-            course: fresh(),
+            course: Course::fresh(),
         },
     }
 }
@@ -62,7 +62,7 @@ fn count_byte(at: usize, held: [u8; 4]) -> Stepped
     if (1 <= n) & (n <= 1024) {
         return on(n, entry_place(n), 4, [0u8; 4]);
     }
-    refuse(End::BadContents)
+    Stepped::refused(TraceRefusal::BadContents)
 }
 
 // The start of a body, which is whole with byte `at` of the contents. No stream leaves such a count or such a sum: the test keeps sums in range.
@@ -71,13 +71,12 @@ fn start_number(contents: &[u8], cases: usize, due: usize, at: usize, start: usi
     ensures { result ≡ start_on contents.now cases due at start }
 {
     if (1024 < cases) | (LAST_START < due) {
-        return refuse(End::BadContents);
+        return Stepped::refused(TraceRefusal::BadContents);
     }
     let l = wide(word_at(contents, at - 15));
     let w = wide(word_at(contents, at - 11));
-    let extent = body_end(l, w, start, due);
-    let Extent::Ends(end) = extent else {
-        return refuse(End::BadContents);
+    let Some(end) = body_end(l, w, start, due) else {
+        return Stepped::refused(TraceRefusal::BadContents);
     };
     if at + 1 == entry_place(cases) {
         return opened(cases, end);
@@ -98,7 +97,7 @@ fn entry_number(contents: &[u8], cases: usize, due: usize, at: usize) -> Stepped
     if (is_legal(n) & (column == 3)) | ((n <= 4096) & (column == 7)) {
         return on(cases, due, at + 1, [0u8; 4]);
     }
-    refuse(End::BadContents)
+    Stepped::refused(TraceRefusal::BadContents)
 }
 
 // A byte of the contents.
@@ -113,7 +112,7 @@ pub fn contents_byte(contents: &mut [u8], m: Marks, b: u8) -> Stepped
     }
     if LONGEST_CONTENTS <= at {
         // No stream leaves this.
-        return refuse(End::BadContents);
+        return Stepped::refused(TraceRefusal::BadContents);
     }
     contents[at - 4] = b;
     if at % 4 == 3 {

@@ -3,22 +3,20 @@ ghost use Rattle.std.specs.Prelude.{◌≡◌, ◌<◌, ◌≤◌, length};
 ghost use Rattle.stream.specs.Steps.{Takes, Fills, FeedsHeld, ClosesMarks};
 
 use crate::bodies::bodies_bytes;
-use crate::bytes::clear;
 use crate::contents::contents_byte;
-use crate::state::{IMAGE, Marks, Phase, Stepped, refuse};
-use trace::types::{End, Told};
+use crate::state::{IMAGE, Marks, Phase, Stepped};
+use trace::types::{Told, TraceRefusal};
 
 // Some of the bytes: up to and with the last of a part or a number, or all. Held are the image and the contents.
 fn step(held: &mut [u8], m: Marks, bytes: &[u8]) -> Stepped
     requires { (length held.old ≡ 20480) × (0 < length bytes.now) }
     ensures { Takes held.old m bytes.now result held.new }
 {
-    let phase = m.phase;
-    match phase {
+    match m.phase {
         Phase::Contents => contents_byte(&mut held[IMAGE..], m, bytes[0]),
         Phase::Bodies => bodies_bytes(held, m, bytes),
         // Not met: `feed` has asked, and a refusal ends the loop of `take`.
-        Phase::Ended(end) => refuse(end),
+        Phase::Ended(_) => Stepped::refused(TraceRefusal::BadContents),
     }
 }
 
@@ -29,15 +27,15 @@ fn take(held: &mut [u8], m: Marks, bytes: &[u8]) -> Stepped
 {
     let mut marks = m;
     let mut at = 0;
+    // Each step takes as many bytes as it says, so no iterator counts them.
     while at < bytes.len() {
         let stepped = step(held, marks, &bytes[at..]);
-        let told = stepped.told;
         marks = stepped.marks;
         at += stepped.taken;
-        let Told::Nothing = told else {
+        let Told::Nothing = stepped.told else {
             return Stepped {
                 taken: at,
-                told,
+                told: stepped.told,
                 marks,
             };
         };
@@ -54,8 +52,7 @@ pub fn feed(held: &mut [u8], m: Marks, bytes: &[u8]) -> Stepped
     requires { length held.old ≡ 20480 }
     ensures { FeedsHeld held.old m bytes.now result held.new }
 {
-    let phase = m.phase;
-    if let Phase::Ended(end) = phase {
+    if let Phase::Ended(end) = m.phase {
         return Stepped {
             taken: 0,
             told: Told::Over(end),
@@ -63,25 +60,23 @@ pub fn feed(held: &mut [u8], m: Marks, bytes: &[u8]) -> Stepped
         };
     }
     let took = take(held, m, bytes);
-    let told = took.told;
-    if let Told::Over(_) = told {
-        clear(held);
+    if let Told::Over(_) = took.told {
+        held.fill(0);
     }
     took
 }
 
 // What an end tells.
-pub fn close(m: Marks) -> End
+pub fn close(m: Marks) -> Result<(), TraceRefusal>
     ensures { ClosesMarks m result }
 {
-    let phase = m.phase;
-    match phase {
-        Phase::Contents => End::BadContents,
+    match m.phase {
+        Phase::Contents => Err(TraceRefusal::BadContents),
         Phase::Bodies => {
             if m.case == m.cases {
-                End::Complete
+                Ok(())
             } else {
-                End::BadTotal
+                Err(TraceRefusal::BadTotal)
             }
         }
         Phase::Ended(end) => end,

@@ -1,12 +1,11 @@
 // The state of a stream. It is handed on by value, and nothing else is held between two calls.
-ghost use Rattle.std.specs.Prelude.{◌≡◌};
+ghost use Rattle.std.specs.Prelude.{◌≡◌, Err};
 ghost use Rattle.trace.specs.declared.types.Told.{Told};
 ghost use Rattle.trace.specs.Stream.{start};
 ghost use Rattle.stream.specs.Kept.{course_at, fresh_course, ended_marks, Keeps, Feeds, Closes};
 
 use crate::feed::{close, feed};
-use replay::body::load;
-use trace::types::{End, Told, Verdict};
+use trace::types::{Told, TraceRefusal, Verdict};
 
 // The image, which holds the longest file, comes before the contents where both are held together.
 pub const IMAGE: usize = 8192;
@@ -18,7 +17,7 @@ pub const HELD: usize = 20480;
 pub enum Phase {
     Contents,
     Bodies,
-    Ended(End),
+    Ended(Result<(), TraceRefusal>),
 }
 
 // How a case stands: what is said of it, which is that it agrees until something else is known, and the flag QC of its run.
@@ -75,51 +74,58 @@ pub struct Fed {
 // What a call at the end tells, and the state behind it.
 #[derive(Clone, Copy)]
 pub struct Closed {
-    pub end: End,
+    pub end: Result<(), TraceRefusal>,
     pub state: State,
 }
 
-// The course behind `at` bytes, of which those of a number are held. Nothing is known of a case.
-pub fn course_at(at: usize, held: [u8; 4]) -> Course
-    ensures { result ≡ course_at at held }
-{
-    Course {
-        at,
-        held,
-        standing: Standing {
-            said: Verdict::Agrees,
-            qc: false,
-        },
+impl Course {
+    // Behind `at` bytes, of which those of a number are held. Nothing is known of a case.
+    pub fn new(at: usize, held: [u8; 4]) -> Self
+        ensures { result ≡ course_at at held }
+    {
+        Course {
+            at,
+            held,
+            standing: Standing {
+                said: Verdict::Agrees,
+                qc: false,
+            },
+        }
+    }
+
+    // Of a part of which no byte has come.
+    pub fn fresh() -> Self
+        ensures { result ≡ fresh_course }
+    {
+        Course::new(0, [0u8; 4])
     }
 }
 
-// The course of a part of which no byte has come.
-pub fn fresh() -> Course
-    ensures { result ≡ fresh_course }
-{
-    course_at(0, [0u8; 4])
-}
-
-pub fn ended_marks(end: End) -> Marks
-    ensures { result ≡ ended_marks end }
-{
-    Marks {
-        phase: Phase::Ended(end),
-        cases: 0,
-        case: 0,
-        due: 0,
-        course: fresh(),
+impl Marks {
+    // Of a stream that is over.
+    pub fn ended(end: Result<(), TraceRefusal>) -> Self
+        ensures { result ≡ ended_marks end }
+    {
+        Marks {
+            phase: Phase::Ended(end),
+            cases: 0,
+            case: 0,
+            due: 0,
+            course: Course::fresh(),
+        }
     }
 }
 
-// One byte, and the stream is over.
-pub fn refuse(end: End) -> Stepped
-    ensures { result ≡ record { taken = 1; told = Told.Over end; marks = ended_marks end } }
-{
-    Stepped {
-        taken: 1,
-        told: Told::Over(end),
-        marks: ended_marks(end),
+impl Stepped {
+    // One byte, and the stream is over.
+    pub fn refused(refusal: TraceRefusal) -> Self
+        ensures { result ≡ record { taken = 1; told = Told.Over (Err refusal); marks = ended_marks (Err refusal) } }
+    {
+        Stepped {
+            taken: 1,
+            told: Told::Over(Err(refusal)),
+            marks: Marks::ended(Err(refusal)),
+        }
     }
 }
 
@@ -136,7 +142,7 @@ impl State {
                 cases: 0,
                 case: 0,
                 due: 0,
-                course: fresh(),
+                course: Course::fresh(),
             },
         }
     }
@@ -147,22 +153,19 @@ impl State {
     {
         let mut image = self.image;
         let mut contents = self.contents;
-        let marks = self.marks;
         let mut held = [0u8; HELD];
-        load(&mut held[..IMAGE], &image);
-        load(&mut held[IMAGE..], &contents);
-        let stepped = feed(&mut held, marks, bytes);
-        load(&mut image, &held[..IMAGE]);
-        load(&mut contents, &held[IMAGE..]);
-        let told = stepped.told;
-        let left = stepped.marks;
+        held[..IMAGE].copy_from_slice(&image);
+        held[IMAGE..].copy_from_slice(&contents);
+        let stepped = feed(&mut held, self.marks, bytes);
+        image.copy_from_slice(&held[..IMAGE]);
+        contents.copy_from_slice(&held[IMAGE..]);
         Fed {
             taken: stepped.taken,
-            told,
+            told: stepped.told,
             state: State {
                 image,
                 contents,
-                marks: left,
+                marks: stepped.marks,
             },
         }
     }
@@ -171,15 +174,13 @@ impl State {
     pub fn end(self) -> Closed
         ensures { Closes self result }
     {
-        let marks = self.marks;
-        let end = close(marks);
-        let left = ended_marks(end);
+        let end = close(self.marks);
         Closed {
             end,
             state: State {
                 image: [0u8; 8192],
                 contents: [0u8; 12288],
-                marks: left,
+                marks: Marks::ended(end),
             },
         }
     }

@@ -12,9 +12,10 @@ use Rattle.trace.specs.Trace.{cases_of, contents_size, begins, number_allowed}
 use Rattle.trace.specs.Verdict.{case_of}
 use Rattle.trace.specs.Stream.{due_of, Listing, Within, then}
 use Rattle.trace.specs.declared.types.Told.{Told}
-use Rattle.trace.specs.declared.types.End.{End}
 use Rattle.trace.proofs.Live.{quiet-listing, number-ends, refused-listing, allowed-listing, on-listing, listed}
 use Rattle.trace.proofs.Live.{quiet-within, case-whole, whole-within, past-within}
+use Rattle.trace.specs.declared.types.TraceRefusal.{TraceRefusal}
+use Rattle.std.specs.Prelude.{Err}
 
 -- ---- within the contents
 
@@ -23,7 +24,7 @@ pub data ListingThen (h : List ℕ) (b : ℕ) : Told → Type 0 where
   on : Listing (then h b) → ListingThen h b Told.Nothing
   whole : Within (then h b) 0 → ListingThen h b Told.Nothing
   refused : (i : ℕ) → 4 * i + 4 ≤ length (then h b) → length (then h b) ≤ contents_size (then h b) → number_allowed (then h b) i ≡ false →
-      ListingThen h b (Told.Over End.BadContents)
+      ListingThen h b (Told.Over (Err TraceRefusal.BadContents))
 
 module _ (h : List ℕ) (b : ℕ) (v : Listing h) where
   longer : length (then h b) ≡ length h + 1
@@ -56,7 +57,7 @@ module _ (h : List ℕ) (b : ℕ) (v : Listing h) where
 pub data WithinThen (h : List ℕ) (b k : ℕ) : Told → Type 0 where
   on : k < cases_of h → Within (then h b) k → WithinThen h b k Told.Nothing
   whole : length (then h b) ≡ begins h (suc k) → Within (then h b) (suc k) → WithinThen h b k (Told.Case (case_of (then h b) k))
-  past : k ≡ cases_of h → WithinThen h b k (Told.Over End.BadTotal)
+  past : k ≡ cases_of h → WithinThen h b k (Told.Over (Err TraceRefusal.BadTotal))
 
 module _ (h : List ℕ) (b k : ℕ) (v : Within h k) where
   body-then : k < cases_of h → WithinThen h b k (due_of (then h b))

@@ -15,7 +15,7 @@ use Rattle.trace.specs.Feed.{Fed, more, goes_on, feed_from, feed_of, end_of, Who
 use Rattle.trace.specs.Streamed.{TakesFirst}
 use Rattle.trace.specs.declared.types.Verdict.{Verdict}
 use Rattle.trace.specs.declared.types.Told.{Told}
-use Rattle.trace.specs.declared.types.End.{End}
+use Rattle.trace.specs.Stream.{End}
 
 -- ---- one call with a piece of the bytes, and the rest
 

@@ -16,9 +16,10 @@ use Rattle.trace.specs.Stream.{pick_told, number_due, case_due, due_of}
 use Rattle.trace.specs.Streamed.{EndsBody}
 use Rattle.trace.specs.declared.types.Verdict.{Verdict}
 use Rattle.trace.specs.declared.types.Told.{Told}
-use Rattle.trace.specs.declared.types.End.{End}
 use Rattle.isa.proofs.File.{cases}
 use Rattle.trace.proofs.Contents.{begins-mono}
+use Rattle.trace.specs.declared.types.TraceRefusal.{TraceRefusal}
+use Rattle.std.specs.Prelude.{Err}
 
 module _ (h : List ℕ) where
   pub due-contents : length h ≤ contents_size h → due_of h ≡ number_due h
@@ -30,14 +31,14 @@ module _ (h : List ℕ) where
   due-inside l n = due-contents l ∙ rw (ne_eqb (length h % 4) 0 n)
 
   pub due-number : (i : ℕ) → length h ≡ 4 * i + 4 → i ≤ 3 * cases_of h →
-      due_of h ≡ pick_told (not (number_allowed h i)) (Told.Over End.BadContents) Told.Nothing
+      due_of h ≡ pick_told (not (number_allowed h i)) (Told.Over (Err TraceRefusal.BadContents)) Told.Nothing
   unfolding number_due
   due-number i e l =
       let m : length h % 4 ≡ 0 = omega arith in
       let d : length h / 4 - 1 ≡ i = omega arith in
       due-contents (omega arith) ∙ rw (eq-eqb (length h % 4) 0 m, d)
 
-  pub due-past : contents_size h < length h → total_of h < length h → due_of h ≡ Told.Over End.BadTotal
+  pub due-past : contents_size h < length h → total_of h < length h → due_of h ≡ Told.Over (Err TraceRefusal.BadTotal)
   unfolding due_of
   due-past l m = rw (lt-leb (length h) (contents_size h) l, lt-ltb (total_of h) (length h) m)
 
@@ -101,7 +102,7 @@ module _ (h : List ℕ) (v : Verdict) where
   unfolding number_due
   number-none = by-test (eqb (length h % 4) 0 && not (number_allowed h (length h / 4 - 1)))
     where
-      by-test : (t : Bool) → is_case (pick_told t (Told.Over End.BadContents) Told.Nothing) ≡ false
+      by-test : (t : Bool) → is_case (pick_told t (Told.Over (Err TraceRefusal.BadContents)) Told.Nothing) ≡ false
       by-test true = refl
       by-test false = refl
 
@@ -110,4 +111,4 @@ module _ (h : List ℕ) (v : Verdict) where
   verdict-due e =
       cases (leb (length h) (contents_size h))
       (λ t. no_case (number_due h) number-none (rw t at e))
-      (λ t. cases (ltb (total_of h) (length h)) (λ u. no_case (Told.Over End.BadTotal) refl (rw (t, u) at e)) (λ u. case-ends (cases_of h) (omega arith) (rw (t, u) at e)))
+      (λ t. cases (ltb (total_of h) (length h)) (λ u. no_case (Told.Over (Err TraceRefusal.BadTotal)) refl (rw (t, u) at e)) (λ u. case-ends (cases_of h) (omega arith) (rw (t, u) at e)))

@@ -18,10 +18,11 @@ use Rattle.trace.specs.Verdict.{verdict_of, case_of}
 use Rattle.trace.specs.Returned.{EntryAllowed}
 use Rattle.trace.specs.Stream.{due_of, close_of, Listing, Within, then}
 use Rattle.trace.specs.declared.types.Told.{Told}
-use Rattle.trace.specs.declared.types.End.{End}
 use Rattle.trace.proofs.Contents.{contents-numbers, contents-exact, entry-allowed, cases-allowed, begins-mono}
 use Rattle.trace.proofs.Prefix.{word-append, begins-append, allowed-append, case-append}
 use Rattle.trace.proofs.Due.{due-inside, due-number, due-past, due-body}
+use Rattle.trace.specs.declared.types.TraceRefusal.{TraceRefusal}
+use Rattle.std.specs.Prelude.{Ok, Err}
 
 -- ---- within the contents
 
@@ -36,7 +37,7 @@ module _ (h : List ℕ) (v : Listing h) where
   pub listing-entry : (k : ℕ) → 16 + 12 * k ≤ length h → EntryAllowed h k
   listing-entry k l = entry-allowed h k (λ f m. v.numbers (suc (3 * k + f)) (omega arith))
 
-  pub close-listing : close_of h ≡ End.BadContents
+  pub close-listing : close_of h ≡ (Err TraceRefusal.BadContents)
   unfolding close_of
   close-listing = rw (lt-leb (contents_size h) (length h) v.short)
 
@@ -68,7 +69,7 @@ module _ (h : List ℕ) (b i : ℕ) (v : Listing h) (place : length h ≡ 4 * i 
   pub number-ends : length (then h b) ≤ contents_size (then h b)
   number-ends = omega (arith, longer, within)
 
-  pub refused-listing : number_allowed (then h b) i ≡ false → due_of (then h b) ≡ Told.Over End.BadContents
+  pub refused-listing : number_allowed (then h b) i ≡ false → due_of (then h b) ≡ Told.Over (Err TraceRefusal.BadContents)
   refused-listing e = due-number (then h b) i longer within ∙ rw e
 
   module _ (e : number_allowed (then h b) i ≡ true) where
@@ -102,7 +103,7 @@ module _ (h : List ℕ) (k : ℕ) (v : Within h k) where
   pub contents-whole : contents_size h ≤ length h
   contents-whole = ((contents-numbers h).0 v.contents).0
 
-  pub close-within : k < cases_of h → close_of h ≡ End.BadTotal
+  pub close-within : k < cases_of h → close_of h ≡ (Err TraceRefusal.BadTotal)
   unfolding close_of
   close-within l =
       let short : length h < begins h (cases_of h) = omega (arith, v.to l, begins-mono h (suc k) (cases_of h) (omega arith)) in
@@ -177,11 +178,11 @@ module _ (h x : List ℕ) (k : ℕ) (v : Within h k) where
           )
 
 -- all bodies are whole
-pub close-past : (h : List ℕ) → Within h (cases_of h) → close_of h ≡ End.Complete
+pub close-past : (h : List ℕ) → Within h (cases_of h) → close_of h ≡ (Ok tt)
 unfolding close_of
 close-past h v = rw (le-leb (contents_size h) (length h) (contents-whole h (cases_of h) v), eq-eqb (length h) (begins h (cases_of h)) (v.last refl))
 
-pub past-within : (h : List ℕ) (b : ℕ) → Within h (cases_of h) → due_of (then h b) ≡ Told.Over End.BadTotal
+pub past-within : (h : List ℕ) (b : ℕ) → Within h (cases_of h) → due_of (then h b) ≡ Told.Over (Err TraceRefusal.BadTotal)
 past-within h b v =
     let n = length-append h (b ∷ []) in
     let c = cases-kept h (b ∷ []) (cases_of h) v in

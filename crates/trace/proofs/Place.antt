@@ -11,7 +11,9 @@ use lib.ListN.{length, length-take, length-drop}
 use Rattle.isa.specs.Run.{Outcome, start, ended, run, pick_outcome, checked_run, outcome_of}
 use Rattle.isa.specs.File.{check_of}
 use Rattle.isa.specs.declared.types.Ending.{Ending}
-use Rattle.isa.specs.declared.types.Checked.{Checked}
+use Rattle.std.specs.Prelude.{Ok, Err}
+use Rattle.isa.specs.Check.{Check}
+use Rattle.isa.specs.declared.types.FileRefusal.{FileRefusal}
 use Rattle.isa.proofs.Bytes.{words-length}
 use Rattle.isa.proofs.Run.{run-count}
 use Rattle.trace.specs.Trace.{length_at, count_at, body_size, begins, body_of}
@@ -33,11 +35,9 @@ module _ (L : ℕ) (file : List ℕ) (qc : Bool) (words : List ℕ) where
   picked-count true = omega arith
   picked-count false = (run-count L words file qc).0
 
-  checked-count : (k : Checked) → (checked_run k L words (start file qc)).answer.done ≤ length words
-  checked-count Checked.Passed = picked-count (ltb 4096 (length words))
-  checked-count Checked.BadLength = omega arith
-  checked-count Checked.NotPowerOfTwo = omega arith
-  checked-count Checked.BadSize = omega arith
+  checked-count : (k : Check FileRefusal) → (checked_run k L words (start file qc)).answer.done ≤ length words
+  checked-count (Ok passed) = picked-count (ltb 4096 (length words))
+  checked-count (Err refusal) = omega arith
 
   -- a run does no more words than there are
   pub outcome-count : (outcome_of L file qc words).answer.done ≤ length words

@@ -16,10 +16,10 @@ use Rattle.isa.specs.declared.types.Ending.{Ending}
 use Rattle.trace.specs.Verdict.{is_flag, flag_of, compared, flags, besides, verdict_on, verdict_of, case_of, judge_of}
 use Rattle.trace.specs.Recorded.{Recording, flag_number, At, AllRecordable, ran_of, FileOf, RunOf, changed_byte, turned_flag, read_as, Says, Recorded}
 use Rattle.trace.specs.declared.types.Verdict.{Verdict}
-use Rattle.trace.specs.declared.types.Judged.{Judged}
 use Rattle.trace.proofs.Compared.{compared_same, compared-differs}
 use Rattle.trace.proofs.Pieces.{run-kept}
 use Rattle.trace.proofs.Written.{at_there, recorded-body, recorded-accepted}
+use Rattle.std.specs.Prelude.{Ok}
 
 -- the flags are read as they were written
 flag-allowed : (b : Bool) → is_flag (flag_number b) ≡ true
@@ -63,7 +63,7 @@ module _ (rs : List Recording) (all : AllRecordable rs) where
       let reads = recorded-body rs all k r here in
       let flags-read : verdict_on r.bits (read_as r) ≡ besides (ran_of r) r.after r.left =
       rw (flag-allowed r.before, flag-allowed r.after, flag-read r.before, flag-read r.after) in
-      rw (recorded-accepted rs all, lt-ltb k (length rs) (at_there rs k r here).0, reads.body, reads.bits) (ap Judged.Case (flags-read ∙ e))
+      rw (recorded-accepted rs all, lt-ltb k (length rs) (at_there rs k r here).0, reads.body, reads.bits) (ap Ok (flags-read ∙ e))
 
   pub recorded-agrees : (k : ℕ) (r : Recording) → At rs k r → RunOf r → Says rs k Verdict.Agrees
   recorded-agrees k r here run = says k r here (flag-said r run.file r.after ∙ rw run.flag (flags-same r.after))

@@ -21,27 +21,28 @@ use Rattle.trace.specs.Stream.{pick_end, due_of, Listing, Within, live, over, st
 use Rattle.trace.specs.Feed.{end_of, Whole, whole_on, whole_from, Calls}
 use Rattle.trace.specs.Streamed.{ending_of, accepted_by, verdicts_from, Streamed, Replayed}
 use Rattle.trace.specs.declared.types.Verdict.{Verdict}
-use Rattle.trace.specs.declared.types.Accepted.{Accepted}
 use Rattle.trace.specs.declared.types.Told.{Told}
-use Rattle.trace.specs.declared.types.End.{End}
 use Rattle.trace.proofs.Contents.{contents-numbers, contents-exact, begins-mono}
 use Rattle.trace.proofs.Prefix.{word-append, allowed-append}
 use Rattle.trace.proofs.Returned.{accept-exact}
 use Rattle.trace.proofs.Live.{live-empty, cases-kept, begins-kept, contents-kept, case-kept, close-listing, close-within, close-past}
 use Rattle.trace.proofs.Byte.{ListingThen, listing-then, WithinThen, within-then}
 use Rattle.trace.proofs.Calls.{calls-whole}
+use Rattle.trace.specs.declared.types.TraceRefusal.{TraceRefusal}
+use Rattle.trace.specs.Stream.{End}
+use Rattle.std.specs.Prelude.{Ok, Err}
 
 -- ---- the end
 
-ending-contents : (t : List ℕ) → contents_allowed t ≡ false → ending_of t ≡ End.BadContents
+ending-contents : (t : List ℕ) → contents_allowed t ≡ false → ending_of t ≡ (Err TraceRefusal.BadContents)
 unfolding ending_of
 ending-contents t e = rw e
 
-ending-total : (t : List ℕ) → contents_allowed t ≡ true → (length t ≡ total_of t → ⊥) → ending_of t ≡ End.BadTotal
+ending-total : (t : List ℕ) → contents_allowed t ≡ true → (length t ≡ total_of t → ⊥) → ending_of t ≡ (Err TraceRefusal.BadTotal)
 unfolding ending_of
 ending-total t e ne = rw (e, ne_eqb (length t) (total_of t) ne)
 
-ending-complete : (t : List ℕ) → contents_allowed t ≡ true → length t ≡ total_of t → ending_of t ≡ End.Complete
+ending-complete : (t : List ℕ) → contents_allowed t ≡ true → length t ≡ total_of t → ending_of t ≡ (Ok tt)
 unfolding ending_of
 ending-complete t e l = rw (e, eq-eqb (length t) (total_of t) l)
 
@@ -57,7 +58,7 @@ record Rest (t : List ℕ) (k : ℕ) (w : Whole) : Type 0 where
   all : contents_allowed t ≡ true → k + n < cases_of t → length t < begins t (suc (k + n))
 
 -- the contents are not allowed
-rest-refused : (t : List ℕ) (w : Whole) → contents_allowed t ≡ false → w.verdicts ≡ [] → end_of w.status ≡ End.BadContents → Rest t 0 w
+rest-refused : (t : List ℕ) (w : Whole) → contents_allowed t ≡ false → w.verdicts ≡ [] → end_of w.status ≡ (Err TraceRefusal.BadContents) → Rest t 0 w
 unfolding verdicts_from
 rest-refused t w bad empty e = record {
   ends = e ∙ sym (ending-contents t bad);
@@ -116,7 +117,7 @@ module _ (h : List ℕ) (k : ℕ) (v : Within h k) where
       ]
 
   -- a byte too many
-  rest-past : (b : ℕ) (x : List ℕ) → k ≡ cases_of h → Rest (h ++ b ∷ x) k (record { verdicts = []; status = over End.BadTotal })
+  rest-past : (b : ℕ) (x : List ℕ) → k ≡ cases_of h → Rest (h ++ b ∷ x) k (record { verdicts = []; status = over (Err TraceRefusal.BadTotal) })
   rest-past b x whole =
       let t : List ℕ = h ++ b ∷ x in
       let n = length-append h (b ∷ x) in
@@ -186,8 +187,8 @@ streamed {t} {w} c =
 -- ---- a trace of up to 64 KiB
 
 accept-by : (t : List ℕ) (a b : Bool) →
-    pick_accepted a (pick_accepted b (Accepted.Cases (cases_of t)) Accepted.BadTotal) Accepted.BadContents
-    ≡ accepted_by (pick_end a (pick_end b End.Complete End.BadTotal) End.BadContents) t
+    pick_accepted a (pick_accepted b (Ok (cases_of t)) (Err TraceRefusal.BadTotal)) (Err TraceRefusal.BadContents)
+    ≡ accepted_by (pick_end a (pick_end b (Ok tt) (Err TraceRefusal.BadTotal)) (Err TraceRefusal.BadContents)) t
 accept-by t true true = refl
 accept-by t true false = refl
 accept-by t false b = refl
@@ -197,9 +198,9 @@ unfolding accepted_of ending_of
 accept-ends t l = rw (le-leb (length t) 65536 l) (accept-by t (contents_allowed t) (eqb (length t) (total_of t)))
 
 number_by : (t : List ℕ) (e : End) → end_number e ≡ accepted_number (accepted_by e t)
-number_by t End.Complete = refl
-number_by t End.BadContents = refl
-number_by t End.BadTotal = refl
+number_by t (Ok tt) = refl
+number_by t (Err TraceRefusal.BadContents) = refl
+number_by t (Err TraceRefusal.BadTotal) = refl
 
 pub ended-short : {t : List ℕ} {w : Whole} → Calls start t w → length t ≤ 65536 → end_number (end_of w.status) ≡ accepted_number (accepted_of t)
 ended-short {t} {w} c l = ap end_number (streamed c).ends ∙ number_by t (ending_of t) ∙ ap accepted_number (sym (accept-ends t l))
@@ -231,7 +232,7 @@ all_told t a b s =
       | no l ↦ absurd (omega (arith, s.all ((contents-exact t).1 a) (omega arith), begins-mono t (suc s.n) (cases_of t) (omega arith), b.exact))
     ]
 
-pub verdict-is-replay : {t : List ℕ} {w : Whole} (c : ℕ) → accepted_of t ≡ Accepted.Cases c → Calls start t w → Replayed t c w.verdicts (end_of w.status)
+pub verdict-is-replay : {t : List ℕ} {w : Whole} (c : ℕ) → accepted_of t ≡ Ok c → Calls start t w → Replayed t c w.verdicts (end_of w.status)
 unfolding judge_of
 verdict-is-replay {t} {w} c e calls =
     let s = streamed calls in

@@ -17,9 +17,9 @@ use Rattle.trace.specs.Verdict.{parts_of, accepted_of}
 use Rattle.trace.specs.Returned.{EntryAllowed}
 use Rattle.trace.specs.Recorded.{Recording, four_of, fours_of, flag_number, body_bytes, entry_bytes, entries_from, bodies_of, trace_of}
 use Rattle.trace.specs.Recorded.{Recordable, At, AllRecordable, read_as, Reads}
-use Rattle.trace.specs.declared.types.Accepted.{Accepted}
 use Rattle.trace.proofs.Contents.{contents-exact, total-exact}
 use Rattle.trace.proofs.Prefix.{word-drop}
+use Rattle.std.specs.Prelude.{Ok}
 
 -- ---- numbers in four bytes
 
@@ -224,7 +224,7 @@ module _ (rs : List Recording) (all : AllRecordable rs) where
   total : length t ≡ total_of t
   total = rw (trace-cases, read-begins (length rs) (omega arith), take-length rs) trace-length
 
-  pub recorded-accepted : accepted_of t ≡ Accepted.Cases (length rs)
+  pub recorded-accepted : accepted_of t ≡ Ok (length rs)
   unfolding accepted_of
   recorded-accepted =
       let whole : contents_size t ≤ length t = omega (arith, trace-cases, trace-length) in

@@ -1,9 +1,8 @@
 -- The calls that hand in a stream, however it is cut. Request A10.
 use Rattle.std.specs.Prelude.{ℕ, suc, List, [], ◌∷◌, ◌++◌, drop}
-use Rattle.trace.specs.Stream.{due_of, close_of, then, Status, live, over}
+use Rattle.trace.specs.Stream.{End, due_of, close_of, then, Status, live, over}
 use Rattle.trace.specs.declared.types.Verdict.{Verdict}
 use Rattle.trace.specs.declared.types.Told.{Told}
-use Rattle.trace.specs.declared.types.End.{End}
 
 -- ---- one call
 

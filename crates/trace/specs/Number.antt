@@ -2,10 +2,11 @@
 -- kinds are those of the calls for C.
 use Rattle.std.specs.Prelude.{ℕ}
 use Rattle.trace.specs.declared.types.Verdict.{Verdict}
-use Rattle.trace.specs.declared.types.Accepted.{Accepted}
-use Rattle.trace.specs.declared.types.Judged.{Judged}
-use Rattle.trace.specs.declared.types.End.{End}
 use Rattle.trace.specs.declared.types.Told.{Told}
+use Rattle.trace.specs.declared.types.TraceRefusal.{TraceRefusal}
+use Rattle.trace.specs.declared.types.CaseRefusal.{CaseRefusal}
+use Rattle.trace.specs.Stream.{End}
+use Rattle.std.specs.Prelude.{Result, Ok, Err}
 
 -- ---- a verdict: its kind, and the place: a byte of the file, or a word. The byte beside a place that differs is the run's (`compared`; `compared-differs`)
 
@@ -27,43 +28,43 @@ verdict_place Verdict.BadFlag = 0
 
 -- ---- a trace: 0 with the number of cases, 15 and 16 with none
 
-abbrev pub accepted_number : Accepted → ℕ
-accepted_number (Accepted.Cases cases) = 0
-accepted_number Accepted.BadContents = 15
-accepted_number Accepted.BadTotal = 16
+abbrev pub trace_refusal : TraceRefusal → ℕ
+trace_refusal TraceRefusal.BadContents = 15
+trace_refusal TraceRefusal.BadTotal = 16
 
-abbrev pub accepted_cases : Accepted → ℕ
-accepted_cases (Accepted.Cases cases) = cases
-accepted_cases Accepted.BadContents = 0
-accepted_cases Accepted.BadTotal = 0
+abbrev pub accepted_number : Result ℕ TraceRefusal → ℕ
+accepted_number (Ok cases) = 0
+accepted_number (Err refusal) = trace_refusal refusal
+
+abbrev pub accepted_cases : Result ℕ TraceRefusal → ℕ
+accepted_cases (Ok cases) = cases
+accepted_cases (Err refusal) = 0
 
 -- ---- a case asked for: 0 with the verdict, 15, 16 and 22 with none
 
-abbrev pub judged_number : Judged → ℕ
-judged_number (Judged.Case v) = 0
-judged_number Judged.BadContents = 15
-judged_number Judged.BadTotal = 16
-judged_number Judged.NoCase = 22
+abbrev pub case_refusal : CaseRefusal → ℕ
+case_refusal CaseRefusal.BadContents = 15
+case_refusal CaseRefusal.BadTotal = 16
+case_refusal CaseRefusal.NoCase = 22
+
+abbrev pub judged_number : Result Verdict CaseRefusal → ℕ
+judged_number (Ok v) = 0
+judged_number (Err refusal) = case_refusal refusal
 
 -- the verdict's, and 0 where there is none
-abbrev pub judged_kind : Judged → ℕ
-judged_kind (Judged.Case v) = verdict_kind v
-judged_kind Judged.BadContents = 0
-judged_kind Judged.BadTotal = 0
-judged_kind Judged.NoCase = 0
+abbrev pub judged_kind : Result Verdict CaseRefusal → ℕ
+judged_kind (Ok v) = verdict_kind v
+judged_kind (Err refusal) = 0
 
-abbrev pub judged_place : Judged → ℕ
-judged_place (Judged.Case v) = verdict_place v
-judged_place Judged.BadContents = 0
-judged_place Judged.BadTotal = 0
-judged_place Judged.NoCase = 0
+abbrev pub judged_place : Result Verdict CaseRefusal → ℕ
+judged_place (Ok v) = verdict_place v
+judged_place (Err refusal) = 0
 
 -- ---- a stream: how it ended, and what a call tells: 0 with a verdict or nothing, 15 and 16 with none
 
 abbrev pub end_number : End → ℕ
-end_number End.Complete = 0
-end_number End.BadContents = 15
-end_number End.BadTotal = 16
+end_number (Ok whole) = 0
+end_number (Err refusal) = trace_refusal refusal
 
 abbrev pub told_number : Told → ℕ
 told_number Told.Nothing = 0

@@ -10,8 +10,7 @@ use Rattle.trace.specs.Trace.{length_at, count_at}
 use Rattle.trace.specs.Verdict.{Body, accepted_of, judge_of}
 use Rattle.trace.specs.Returned.{body_at}
 use Rattle.trace.specs.declared.types.Verdict.{Verdict}
-use Rattle.trace.specs.declared.types.Accepted.{Accepted}
-use Rattle.trace.specs.declared.types.Judged.{Judged}
+use Rattle.std.specs.Prelude.{Ok}
 
 -- one case: the length in bits, QC before, file before, words, QC after, file after
 pub record Recording : Type 0 where
@@ -110,10 +109,10 @@ pub record Reads (t : List ℕ) (k : ℕ) (r : Recording) : Type 0 where
 
 -- case k has the verdict
 abbrev pub Says : List Recording → ℕ → Verdict → Type 0
-Says rs k v = judge_of (trace_of rs) k ≡ Judged.Case v
+Says rs k v = judge_of (trace_of rs) k ≡ Ok v
 
 pub record Recorded (rs : List Recording) : Type 0 where
-  pub accepted : accepted_of (trace_of rs) ≡ Accepted.Cases (length rs)
+  pub accepted : accepted_of (trace_of rs) ≡ Ok (length rs)
   pub reads : (k : ℕ) (r : Recording) → At rs k r → Reads (trace_of rs) k r
   pub agrees : (k : ℕ) (r : Recording) → At rs k r → RunOf r → Says rs k Verdict.Agrees
   -- of a byte that is changed, its place and the run's byte are told, whatever the flag after is

@@ -3,7 +3,12 @@ use Rattle.std.specs.Prelude.{◌≡◌, ℕ, zero, suc, ◌+◌, ◌*◌, ◌-�
 use Rattle.trace.specs.Trace.{cases_of, contents_size, begins, total_of, number_allowed, contents_allowed}
 use Rattle.trace.specs.Verdict.{case_of}
 use Rattle.trace.specs.declared.types.Told.{Told}
-use Rattle.trace.specs.declared.types.End.{End}
+use Rattle.trace.specs.declared.types.TraceRefusal.{TraceRefusal}
+use Rattle.std.specs.Prelude.{Result, Ok, Err}
+
+-- how a stream ended: with all bodies whole, or with the first refusal that applies
+abbrev pub End : Type 0
+End = Result (Unit {0}) TraceRefusal
 
 abbrev pub pick_told : Bool → Told → Told → Told
 pick_told true a b = a
@@ -15,7 +20,7 @@ pick_end false a b = b
 
 -- within the contents: 15 with the last byte of a number that is not allowed
 unfoldable pub number_due : List ℕ → Told
-number_due h = pick_told (eqb (length h % 4) 0 && not (number_allowed h (length h / 4 - 1))) (Told.Over End.BadContents) Told.Nothing
+number_due h = pick_told (eqb (length h % 4) 0 && not (number_allowed h (length h / 4 - 1))) (Told.Over (Err TraceRefusal.BadContents)) Told.Nothing
 
 -- the verdict of the case, of the first k, whose body ends here
 unfoldable pub case_due : List ℕ → ℕ → Told
@@ -26,11 +31,11 @@ case_due h (suc k) = pick_told (eqb (length h) (begins h (suc k))) (Told.Case (c
 unfoldable pub due_of : List ℕ → Told
 due_of h =
     pick_told (leb (length h) (contents_size h)) (number_due h)
-    (pick_told (ltb (total_of h) (length h)) (Told.Over End.BadTotal) (case_due h (cases_of h)))
+    (pick_told (ltb (total_of h) (length h)) (Told.Over (Err TraceRefusal.BadTotal)) (case_due h (cases_of h)))
 
 -- what an end behind the bytes h tells: 15 inside the contents, 16 where a body is missing or not whole. There is no upper size
 unfoldable pub close_of : List ℕ → End
-close_of h = pick_end (leb (contents_size h) (length h)) (pick_end (eqb (length h) (total_of h)) End.Complete End.BadTotal) End.BadContents
+close_of h = pick_end (leb (contents_size h) (length h)) (pick_end (eqb (length h) (total_of h)) (Ok tt) (Err TraceRefusal.BadTotal)) (Err TraceRefusal.BadContents)
 
 -- ---- the bytes of a stream of which nothing was refused so far
 

@@ -4,23 +4,21 @@ use Rattle.std.proofs.Math.Option.{some}
 use Rattle.std.proofs.Math.ListN.{get_elem?}
 use Rattle.trace.specs.Trace.{cases_of, begins, total_of, contents_allowed}
 use Rattle.trace.specs.Verdict.{case_of, judge_of}
-use Rattle.trace.specs.Stream.{pick_end, due_of}
+use Rattle.trace.specs.Stream.{End, pick_end, due_of}
 use Rattle.trace.specs.Feed.{Fed}
 use Rattle.trace.specs.declared.types.Verdict.{Verdict}
-use Rattle.trace.specs.declared.types.Accepted.{Accepted}
-use Rattle.trace.specs.declared.types.Judged.{Judged}
 use Rattle.trace.specs.declared.types.Told.{Told}
-use Rattle.trace.specs.declared.types.End.{End}
+use Rattle.trace.specs.declared.types.TraceRefusal.{TraceRefusal}
+use Rattle.std.specs.Prelude.{Result, Ok, Err}
 
 -- 15, then 16 for a wrong total
 unfoldable pub ending_of : List ℕ → End
-ending_of t = pick_end (contents_allowed t) (pick_end (eqb (length t) (total_of t)) End.Complete End.BadTotal) End.BadContents
+ending_of t = pick_end (contents_allowed t) (pick_end (eqb (length t) (total_of t)) (Ok tt) (Err TraceRefusal.BadTotal)) (Err TraceRefusal.BadContents)
 
 -- what A9 answers of a trace where a stream of the same bytes ends so
-abbrev pub accepted_by : End → List ℕ → Accepted
-accepted_by End.Complete t = Accepted.Cases (cases_of t)
-accepted_by End.BadContents t = Accepted.BadContents
-accepted_by End.BadTotal t = Accepted.BadTotal
+abbrev pub accepted_by : End → List ℕ → Result ℕ TraceRefusal
+accepted_by (Ok whole) t = Ok (cases_of t)
+accepted_by (Err refusal) t = Err refusal
 
 -- the verdicts of n cases from case k on
 unfoldable pub verdicts_from : List ℕ → ℕ → ℕ → List Verdict
@@ -40,10 +38,10 @@ pub record Streamed (t : List ℕ) (verdicts : List Verdict) (end : End) : Type 
 
 -- of a trace that A9 accepts, with c cases (`verdict-is-replay`): the end is no refusal, there are c verdicts, and verdict k is the one that asking for case k gives
 pub record Replayed (t : List ℕ) (c : ℕ) (verdicts : List Verdict) (end : End) : Type 0 where
-  pub complete : end ≡ End.Complete
+  pub complete : end ≡ Ok tt
   pub count : length verdicts ≡ c
   pub verdict : (k : ℕ) → k < c → get_elem? verdicts k ≡ some (case_of t k)
-  pub judged : (k : ℕ) → k < c → judge_of t k ≡ Judged.Case (case_of t k)
+  pub judged : (k : ℕ) → k < c → judge_of t k ≡ Ok (case_of t k)
 
 -- a verdict falls due with the last byte of its body alone (`verdict-due`, proofs/Due.antt)
 pub record EndsBody (h : List ℕ) (v : Verdict) : Type 0 where

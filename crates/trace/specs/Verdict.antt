@@ -6,8 +6,9 @@ use Rattle.isa.specs.Run.{Outcome, outcome_of}
 use Rattle.isa.specs.declared.types.Ending.{Ending}
 use Rattle.trace.specs.Trace.{cases_of, length_at, count_at, body_of, contents_allowed, total_allowed}
 use Rattle.trace.specs.declared.types.Verdict.{Verdict}
-use Rattle.trace.specs.declared.types.Accepted.{Accepted}
-use Rattle.trace.specs.declared.types.Judged.{Judged}
+use Rattle.trace.specs.declared.types.TraceRefusal.{TraceRefusal}
+use Rattle.trace.specs.declared.types.CaseRefusal.{CaseRefusal}
+use Rattle.std.specs.Prelude.{Result, Ok, Err}
 
 -- ---- a body of length L and W words: QC before, file before, words, QC after, and in `left` the file after
 
@@ -79,23 +80,27 @@ case_of t k = verdict_of (length_at t k) (count_at t k) (body_of t k)
 
 -- ---- a trace: 15, then 16
 
-abbrev pub pick_accepted : Bool → Accepted → Accepted → Accepted
+abbrev pub pick_accepted : Bool → Result ℕ TraceRefusal → Result ℕ TraceRefusal → Result ℕ TraceRefusal
 pick_accepted true a b = a
 pick_accepted false a b = b
 
-unfoldable pub accepted_of : List ℕ → Accepted
-accepted_of t = pick_accepted (contents_allowed t) (pick_accepted (total_allowed t) (Accepted.Cases (cases_of t)) Accepted.BadTotal) Accepted.BadContents
+unfoldable pub accepted_of : List ℕ → Result ℕ TraceRefusal
+accepted_of t = pick_accepted (contents_allowed t) (pick_accepted (total_allowed t) (Ok (cases_of t)) (Err TraceRefusal.BadTotal)) (Err TraceRefusal.BadContents)
 
 -- ---- a case asked for by its number: then 22
 
-abbrev pub pick_judged : Bool → Judged → Judged → Judged
+abbrev pub pick_judged : Bool → Result Verdict CaseRefusal → Result Verdict CaseRefusal → Result Verdict CaseRefusal
 pick_judged true a b = a
 pick_judged false a b = b
 
-abbrev pub judged_after : Accepted → List ℕ → ℕ → Judged
-judged_after (Accepted.Cases cases) t n = pick_judged (ltb n cases) (Judged.Case (case_of t n)) Judged.NoCase
-judged_after Accepted.BadContents t n = Judged.BadContents
-judged_after Accepted.BadTotal t n = Judged.BadTotal
+-- a case has the refusals of its trace
+abbrev pub of_trace : TraceRefusal → CaseRefusal
+of_trace TraceRefusal.BadContents = CaseRefusal.BadContents
+of_trace TraceRefusal.BadTotal = CaseRefusal.BadTotal
 
-unfoldable pub judge_of : List ℕ → ℕ → Judged
+abbrev pub judged_after : Result ℕ TraceRefusal → List ℕ → ℕ → Result Verdict CaseRefusal
+judged_after (Ok cases) t n = pick_judged (ltb n cases) (Ok (case_of t n)) (Err CaseRefusal.NoCase)
+judged_after (Err refusal) t n = Err (of_trace refusal)
+
+unfoldable pub judge_of : List ℕ → ℕ → Result Verdict CaseRefusal
 judge_of t n = judged_after (accepted_of t) t n

@@ -1,5 +1,8 @@
+ghost use Rattle.std.specs.Prelude.{◌≡◌};
+ghost use Rattle.trace.specs.Verdict.{of_trace};
+
 // What is said of a case of a trace.
-#[derive(Clone, Copy)]
+#[derive(Clone, Copy, PartialEq, Eq)]
 pub enum Verdict {
     // The run leaves the file and the flag that were recorded.
     Agrees,
@@ -14,35 +17,36 @@ pub enum Verdict {
     BadFlag,
 }
 
-// Whether a trace is taken: its number of cases, or the first refusal that applies.
-#[derive(Clone, Copy)]
-pub enum Accepted {
-    Cases(usize),
-    BadContents,
-    BadTotal,
+// Why a trace is refused, by its number: the first that applies. A stream ends with one, or with all bodies whole.
+#[derive(Clone, Copy, PartialEq, Eq)]
+pub enum TraceRefusal {
+    BadContents = 15,
+    BadTotal = 16,
 }
 
-// What asking for a case gives: its verdict, or the first refusal that applies.
-#[derive(Clone, Copy)]
-pub enum Judged {
-    Case(Verdict),
-    BadContents,
-    BadTotal,
-    NoCase,
+// Why there is no verdict of a case that is asked for: the first that applies.
+#[derive(Clone, Copy, PartialEq, Eq)]
+pub enum CaseRefusal {
+    BadContents = 15,
+    BadTotal = 16,
+    NoCase = 22,
 }
 
-// How a stream ended: with all bodies whole, or with the first refusal that applies.
-#[derive(Clone, Copy)]
-pub enum End {
-    Complete,
-    BadContents,
-    BadTotal,
-}
-
-// What a call with bytes of a stream tells.
-#[derive(Clone, Copy)]
+// What a call with bytes of a stream tells. Three answers, and an end is no error where all bodies are whole, so neither an Option nor a Result.
+#[derive(Clone, Copy, PartialEq, Eq)]
 pub enum Told {
     Nothing,
     Case(Verdict),
-    Over(End),
+    Over(Result<(), TraceRefusal>),
+}
+
+impl From<TraceRefusal> for CaseRefusal {
+    ghost from_gives = { λ trace case. case ≡ of_trace trace };
+
+    fn from(refusal: TraceRefusal) -> CaseRefusal {
+        match refusal {
+            TraceRefusal::BadContents => CaseRefusal::BadContents,
+            TraceRefusal::BadTotal => CaseRefusal::BadTotal,
+        }
+    }
 }

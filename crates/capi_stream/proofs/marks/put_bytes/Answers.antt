@@ -8,17 +8,17 @@ use Rattle.capi_stream.proofs.Stored.{held_bytes}
 use Rattle.capi_stream.proofs.marks.put_bytes.Goals as goal
 
 pub bounds-bytes-1 : goal.bounds-bytes-1
-bounds-bytes-1 c = simp length-set (omega (arith, c.clear.auto.part))
+bounds-bytes-1 c = simp length-set (omega (arith, c.fill.auto.self))
 
 pub bounds-bytes-2 : goal.bounds-bytes-2
-bounds-bytes-2 c = simp length-set (omega (arith, c.clear.auto.part))
+bounds-bytes-2 c = simp length-set (omega (arith, c.fill.auto.self))
 
 pub bounds-bytes-3 : goal.bounds-bytes-3
-bounds-bytes-3 c = simp length-set (omega (arith, c.clear.auto.part))
+bounds-bytes-3 c = simp length-set (omega (arith, c.fill.auto.self))
 
 pub bounds-bytes-4 : goal.bounds-bytes-4
-bounds-bytes-4 c = simp length-set (omega (arith, c.clear.auto.part))
+bounds-bytes-4 c = simp length-set (omega (arith, c.fill.auto.self))
 
 pub returns : goal.returns
-returns c = held_bytes c.args.held c.clear.new.part c.args.byte (good_length (e_int w8) 4 c.args.held _ c.well_formed.1.0)
-    (c.clear.ensures ∙ ap (λ (n : ℕ). replicate n 0) c.requires)
+returns c = held_bytes c.args.held c.fill.new.self c.args.byte (good_length (e_int w8) 4 c.args.held _ c.well_formed.1.0)
+    (c.fill.ensures.after (λ y e. e) ∙ ap (λ (n : ℕ). replicate n 0) c.requires)

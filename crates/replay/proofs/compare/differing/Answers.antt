@@ -19,4 +19,4 @@ loop-i-preserved c = let a = c.args in
 
 pub returns : goal.returns
 returns c = let l = c.loop-i in
-    record { within = l.invariant.0; alike = l.invariant.1; here = λ more e. absurd (omega (arith, c.loop-i-test.false)) }
+    record { within = omega arith; alike = λ i h. l.invariant.1 i (omega (arith, c.loop-i-test.false)); here = λ more e. absurd (omega arith) }

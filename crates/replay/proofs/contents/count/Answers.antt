@@ -1,13 +1,14 @@
--- The number is cut short, small enough or too large.
-use mathlib.Core.Path.{sym, ◌∙◌}
+-- The number is cut short, allowed or not.
+use mathlib.Core.Path.{sym, ap, ◌∙◌}
+use Rattle.std.specs.Prelude.{Some}
 use Rattle.replay.proofs.Extent.{count_cut, count_small, count-large}
 use Rattle.replay.proofs.contents.count.Goals as goal
 
-pub returns-in_default : goal.returns-in_default
-returns-in_default c = count_cut _ (sym c.read_number.ensures ∙ c.in_default.is)
+pub returns-in_err-number_at : goal.returns-in_err-number_at
+returns-in_err-number_at c = c.from_residual.ensures ∙ count_cut _ (sym c.number_at.ensures ∙ c.in_err-number_at.was)
 
-pub returns-then-cases-le1024 : goal.returns-then-cases-le1024
-returns-then-cases-le1024 c = c.wide.ensures ∙ count_small _ _ (sym c.read_number.ensures ∙ c.in-Number.is) c.if-cases-le1024.true
+pub returns-then-cases : goal.returns-then-cases
+returns-then-cases c = count_small _ _ (sym c.number_at.ensures ∙ c.in_ok-number_at.was ∙ ap Some (sym c.wide-cases.ensures)) c.if-cases.true
 
-pub returns-else-cases-le1024 : goal.returns-else-cases-le1024
-returns-else-cases-le1024 c = count-large _ _ (sym c.read_number.ensures ∙ c.in-Number.is) c.if-cases-le1024.false
+pub returns : goal.returns
+returns c = count-large _ _ (sym c.number_at.ensures ∙ c.in_ok-number_at.was ∙ ap Some (sym c.wide-cases.ensures)) c.if-cases.false

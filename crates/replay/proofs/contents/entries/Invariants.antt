@@ -1,10 +1,7 @@
 -- The entries before k are allowed, and `due` is where the next body has to start.
-use Prim.Native.Nat.{◌-◌}
+
 use Rattle.replay.proofs.Extent.{EntriesBefore}
 use Rattle.replay.proofs.contents.entries.Given as goal
 
 abbrev pub invariant-loop-k : goal.invariant-loop-k
 invariant-loop-k l = EntriesBefore l.trace l.cases l.due l.k
-
-abbrev pub decreases-loop-k : goal.decreases-loop-k
-decreases-loop-k l = l.cases - l.k

@@ -1,25 +1,20 @@
 -- What the check answered, then whether there is such a case.
-use mathlib.Core.Path.{sym, ◌∙◌}
-use Rattle.trace.specs.declared.types.Accepted.{Accepted}
+use mathlib.Core.Path.{◌≡◌, sym, ◌∙◌}
+use Rattle.std.proofs.lemmas.Result.{err_from_is_err_and}
+use Rattle.std.specs.Prelude.{Err}
 use Rattle.replay.proofs.Answers.{judged-as, judged-case, judged-none, judged-asked}
 use Rattle.replay.proofs.contents.judge.Goals as goal
 
+pub returns-in_err-cases : goal.returns-in_err-cases
+returns-in_err-cases c =
+    let p = err_from_is_err_and c.from_residual.result c.from_residual.ensures.1 in
+    rw (p.1, p.2) (judged-as c.args.trace.now (Err c.in_err-cases.field-0.0) c.args.n (sym c.check.ensures ∙ c.in_err-cases.was))
+
+pub returns-then-cases-n : goal.returns-then-cases-n
+returns-then-cases-n c = judged-none c.args.trace.now _ c.args.n (sym c.check.ensures ∙ c.in_ok-cases.was) c.if-cases-n.true
+
 pub case_verdict-requires : goal.case_verdict-requires
-case_verdict-requires c = let a = c.args in
-    judged-asked a.trace.now _ a.n (sym c.check-accepted.ensures ∙ c.in-Cases.is) c.if-n-cases.true
+case_verdict-requires c = judged-asked c.args.trace.now _ c.args.n (sym c.check.ensures ∙ c.in_ok-cases.was) c.if-cases-n.false
 
-pub returns-then-n-cases : goal.returns-then-n-cases
-returns-then-n-cases c = let a = c.args in
-    judged-case a.trace.now _ a.n (sym c.check-accepted.ensures ∙ c.in-Cases.is) c.case_verdict.result c.case_verdict.ensures c.if-n-cases.true
-
-pub returns-else-n-cases : goal.returns-else-n-cases
-returns-else-n-cases c = let a = c.args in
-    judged-none a.trace.now _ a.n (sym c.check-accepted.ensures ∙ c.in-Cases.is) c.if-n-cases.false
-
-pub returns-in-BadContents : goal.returns-in-BadContents
-returns-in-BadContents c = let a = c.args in
-    judged-as a.trace.now Accepted.BadContents a.n (sym c.check-accepted.ensures ∙ c.in-BadContents.is)
-
-pub returns-in-BadTotal : goal.returns-in-BadTotal
-returns-in-BadTotal c = let a = c.args in
-    judged-as a.trace.now Accepted.BadTotal a.n (sym c.check-accepted.ensures ∙ c.in-BadTotal.is)
+pub returns : goal.returns
+returns c = judged-case c.args.trace.now _ c.args.n (sym c.check.ensures ∙ c.in_ok-cases.was) c.case_verdict.result c.case_verdict.ensures c.if-cases-n.false

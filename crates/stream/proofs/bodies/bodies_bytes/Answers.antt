@@ -6,8 +6,8 @@ use Rattle.stream.proofs.bodies.bodies_bytes.Goals as goal
 use Rattle.stream.proofs.bodies.bodies_bytes.Goals.{then-case-lt1024+else-is_allowed, else-case-lt1024}
 
 pub returns-then-m-case : goal.returns-then-m-case
-returns-then-m-case c = let one = one-taken c.args.bytes.now _ _ c.requires.1 c.refuse.ensures in
-    (one.0, one.1, rows-past c.args.held.now c.args.m _ _ c.requires.1 c.if-m-case.true c.refuse.ensures)
+returns-then-m-case c = let one = one-taken c.args.bytes.now _ _ c.requires.1 c.refused.ensures in
+    (one.0, one.1, rows-past c.args.held.now c.args.m _ _ c.requires.1 c.if-m-case.true c.refused.ensures)
 
 pub slice_bounds-case_bytes-end-then-is_allowed : goal.slice_bounds-case_bytes-end-then-is_allowed
 slice_bounds-case_bytes-end-then-is_allowed c = sym (image-part c.args.held.now c.requires.0)
@@ -26,7 +26,7 @@ returns-then-is_allowed c = let r = c.case_bytes.ensures in (
 )
 
 pub returns : goal.returns
-returns c = let one = one-taken c.args.bytes.now _ _ c.requires.1 c.refuse-2.ensures in (
+returns c = let one = one-taken c.args.bytes.now _ _ c.requires.1 c.refused-2.ensures in (
   one.0,
   one.1,
   elim c.if-case-lt1024.branch [

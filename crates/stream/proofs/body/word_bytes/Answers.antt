@@ -22,7 +22,7 @@ slice_bounds-execute-end-2 c = sym (length-take-le _ _ (slice_bounds-execute-end
 
 pub execute-standing-requires : goal.execute-standing-requires
 execute-standing-requires c = let size : c.args.l * 4 % 18446744073709551616 ≡ 4 * c.args.l = omega (arith, ((legal-exact c.args.l).0 c.requires.allowed.0.ok).most) in (
-  record { ok = c.requires.allowed.0.ok; sized = sym (slice_bounds-execute-end-2 c) ∙ size },
+  record { ok = c.requires.allowed.0.ok; sized = length-take-le _ _ (omega (arith, c.requires.image_len, ((legal-exact c.args.l).0 c.requires.allowed.0.ok).most)) ∙ size },
   omega (arith, c.requires.allowed.0.few, c.requires.allowed.2, c.requires.allowed.1),
   omega (arith, c.requires.allowed.0.few, c.requires.allowed.2, c.requires.allowed.1, c.words_place.ensures),
 )

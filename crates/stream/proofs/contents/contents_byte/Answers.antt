@@ -11,7 +11,7 @@ returns-then-at-lt4 c = let a = c.args in
 
 pub returns-then-at-ge-LONGEST_CONTENTS : goal.returns-then-at-ge-LONGEST_CONTENTS
 returns-then-at-ge-LONGEST_CONTENTS c = let a = c.args in
-    past-lists a.contents.now a.m a.b c.refuse.result c.if-at-ge-LONGEST_CONTENTS.true c.refuse.ensures
+    past-lists a.contents.now a.m a.b c.refused.result c.if-at-ge-LONGEST_CONTENTS.true c.refused.ensures
 
 pub returns-then-at-eq3 : goal.returns-then-at-eq3
 returns-then-at-eq3 c = let a = c.args in

@@ -16,4 +16,4 @@ returns-then-n c = let a = c.args in
 
 pub returns : goal.returns
 returns c = let a = c.args in
-    c.refuse.ensures ∙ count-refused a.at a.held c.if-at-lt3.false c.wide-n.result (c.wide-n.ensures ∙ c.word_at.ensures) c.if-n.false
+    c.refused.ensures ∙ count-refused a.at a.held c.if-at-lt3.false c.wide-n.result (c.wide-n.ensures ∙ c.word_at.ensures) c.if-n.false

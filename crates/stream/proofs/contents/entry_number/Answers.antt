@@ -16,6 +16,6 @@ returns-then-is_legal-column c = let a = c.args in
 
 pub returns : goal.returns
 returns c = let a = c.args in
-    c.refuse.ensures
+    c.refused.ensures
     ∙ number-refused a.contents.now a.cases a.due a.at c.wide-n.result (c.wide-n.ensures ∙ c.word_at.ensures) c.if-column-eq11.false
     c.is_legal.result c.is_legal.ensures c.if-is_legal-column.false

@@ -2,4 +2,4 @@
 use Rattle.stream.proofs.contents.on.Goals as goal
 
 pub returns : goal.returns
-returns c = rw c.course_at.ensures
+returns c = rw c.new.ensures

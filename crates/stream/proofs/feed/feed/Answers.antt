@@ -9,7 +9,7 @@ returns-in-Ended c = feed-ended c.args.held.now c.args.m c.args.bytes.now _ c.in
 
 pub returns-in-Over : goal.returns-in-Over
 returns-in-Over c = feed-refused c.args.held.now c.args.m c.args.bytes.now (opened c.in_default.in_default-own.keys2) _ _ c.take-took.ensures _ c.in-Over.is
-    (c.take-took.auto.held ∙ c.requires) _ c.clear.ensures
+    (c.take-took.auto.held ∙ c.requires) _ (c.fill.ensures.after (λ y e. e))
 
 pub returns-in_default-told : goal.returns-in_default-told
 returns-in_default-told c = feed-goes c.args.held.now c.args.m c.args.bytes.now (opened c.in_default.in_default-own.keys2) _ _ c.take-took.ensures (opened c.in_default-told.in_default-told-own.keys2)

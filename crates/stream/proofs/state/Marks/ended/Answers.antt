@@ -1,5 +1,5 @@
 -- The course is a fresh one.
-use Rattle.stream.proofs.state.ended_marks.Goals as goal
+use Rattle.stream.proofs.state.Marks.ended.Goals as goal
 
 pub returns : goal.returns
 returns c = rw c.fresh.ensures
