@@ -1,9 +1,9 @@
 // What is wrong with a line of the text: where, and what would be right there.
-ghost use Rattle.std.specs.Prelude.{◌≤◌, length};
-
-use crate::instruction::{Instruction, read_instruction};
-use crate::place::{content, skip_blanks};
-use text::{put_byte, put_hex, put_number, put_text};
+use crate::instruction::read_instruction;
+use crate::place::skip_blanks;
+use std::fmt;
+use std::fmt::Write;
+use text::Text;
 
 // No instruction is longer than 47 bytes.
 const MOST: usize = 64;
@@ -11,142 +11,117 @@ const MOST: usize = 64;
 // Bytes from the space to the tilde.
 const PRINTABLE: usize = 95;
 
-fn least(a: usize, b: usize) -> usize
-    ensures { result ≤ b }
-{
-    if a < b { a } else { b }
+// The instruction that stands in a line from the place `start` on is none: no instruction goes on behind the first `reach` bytes.
+// It is shown as the column, what is due there, and what stands there.
+#[derive(Clone, Copy)]
+pub struct Fault<'a> {
+    pub(crate) text: &'a [u8],
+    pub(crate) start: usize,
+    pub(crate) reach: usize,
 }
 
-fn is_whole(beginning: &[u8]) -> bool {
-    let read = read_instruction(beginning);
-    match read {
-        Instruction::Word(_) => true,
-        Instruction::Not(_) => false,
+// Does some instruction begin with this text and a byte more?
+fn goes_on(beginning: &[u8], b: u8) -> bool {
+    let mut tried = Text::<MOST>::new();
+    tried.push_bytes(beginning);
+    tried.push(b);
+    match read_instruction(tried.as_bytes()) {
+        Ok(_) => true,
+        Err(not) => beginning.len() < not.reach,
     }
 }
 
-// Does some instruction begin with the first n bytes and the next?
-fn goes_on(tried: &[u8], n: usize) -> bool {
-    if tried.len() <= n {
-        return false;
+// The bytes that may follow a beginning. Each printable byte is tried: the reader alone says what may follow.
+fn followers(beginning: &[u8]) -> Text<PRINTABLE> {
+    let mut set = Text::new();
+    for b in b' '..=b'~' {
+        if goes_on(beginning, b) {
+            set.push(b);
+        }
     }
-    let end = n + 1;
-    let read = read_instruction(&tried[0..end]);
-    match read {
-        Instruction::Word(_) => true,
-        Instruction::Not(reach) => n < reach,
+    set
+}
+
+#[derive(Clone, Copy)]
+struct Quoted<'a>(&'a [u8]);
+
+impl fmt::Display for Quoted<'_> {
+    fn fmt<W: fmt::Write>(&self, f: &mut fmt::Formatter<W>) -> fmt::Result {
+        f.write_char('\'')?;
+        for b in self.0 {
+            f.write_char(char::from(*b))?;
+        }
+        f.write_char('\'')
     }
 }
 
-fn put_where(wanted: bool, out: &mut [u8], at: usize, b: u8) -> usize {
-    if wanted { put_byte(out, at, b) } else { at }
-}
+// One of a set of bytes.
+#[derive(Clone, Copy)]
+struct OneOf<'a>(&'a [u8]);
 
-// The bytes that may follow the first n, at the start of out; answers how many. Each printable byte is tried: the reader alone says what may follow.
-fn try_followers(out: &mut [u8], tried: &mut [u8], n: usize) -> usize {
-    let mut count = 0;
-    for b in 32..127 {
-        put_byte(tried, n, b);
-        count = put_where(goes_on(tried, n), out, count, b);
+impl fmt::Display for OneOf<'_> {
+    fn fmt<W: fmt::Write>(&self, f: &mut fmt::Formatter<W>) -> fmt::Result {
+        match self.0 {
+            [] => Ok(()),
+            [_] => write!(f, "{}", Quoted(self.0)),
+            _ => write!(f, "one of {}", Quoted(self.0)),
+        }
     }
-    count
-}
-
-fn put_quoted(out: &mut [u8], at: usize, s: &[u8]) -> usize {
-    let opened = put_byte(out, at, b'\'');
-    let put = put_text(out, opened, s);
-    put_byte(out, put, b'\'')
-}
-
-// The first bytes of a set: none, one, or one of some.
-fn put_set(out: &mut [u8], at: usize, set: &[u8], count: usize) -> usize {
-    let n = least(count, set.len());
-    if n == 0 {
-        return at;
-    }
-    if n == 1 {
-        return put_quoted(out, at, &set[0..n]);
-    }
-    let told = put_text(out, at, b"one of ");
-    put_quoted(out, told, &set[0..n])
-}
-
-fn put_followers(out: &mut [u8], at: usize, beginning: &[u8]) -> usize {
-    let mut tried = [0u8; MOST];
-    let n = put_text(&mut tried, 0, beginning);
-    let mut set = [0u8; PRINTABLE];
-    let count = try_followers(&mut set, &mut tried, n);
-    put_set(out, at, &set, count)
-}
-
-fn put_found(out: &mut [u8], at: usize, b: u8) -> usize {
-    if b == b'\t' {
-        return put_text(out, at, b"a tab");
-    }
-    if b < 32 || 126 < b {
-        let told = put_text(out, at, b"the byte 0x");
-        return put_hex(out, told, b);
-    }
-    put_quoted(out, at, &[b])
-}
-
-// What may follow a beginning that is an instruction by itself.
-fn put_end(out: &mut [u8], at: usize, beginning: &[u8]) -> usize {
-    let told = put_followers(out, at, beginning);
-    if at < told {
-        return put_text(out, told, b", the line's end or a // comment");
-    }
-    put_text(out, at, b"the line's end or a // comment")
 }
 
 // What is due after a beginning.
-fn put_due(out: &mut [u8], at: usize, beginning: &[u8]) -> usize {
-    if beginning.len() == 0 {
-        let told = put_text(out, at, b"an instruction begins with ");
-        return put_followers(out, told, beginning);
+#[derive(Clone, Copy)]
+struct Due<'a>(&'a [u8]);
+
+impl fmt::Display for Due<'_> {
+    fn fmt<W: fmt::Write>(&self, f: &mut fmt::Formatter<W>) -> fmt::Result {
+        let set = followers(self.0);
+        let next = OneOf(set.as_bytes());
+        if self.0.is_empty() {
+            return write!(f, "an instruction begins with {next}");
+        }
+        write!(f, "after {} comes {next}", Quoted(self.0))?;
+        if read_instruction(self.0).is_err() {
+            return Ok(());
+        }
+        let comma = if set.as_bytes().is_empty() { "" } else { ", " };
+        write!(f, "{comma}the line's end or a // comment")
     }
-    let told = put_text(out, at, b"after ");
-    let quoted = put_quoted(out, told, beginning);
-    let named = put_text(out, quoted, b" comes ");
-    if is_whole(beginning) {
-        return put_end(out, named, beginning);
-    }
-    put_followers(out, named, beginning)
 }
 
-// Where the text stops being an instruction: behind one that is whole, blanks are none of it.
-fn fault_place(text: &[u8], beginning: &[u8]) -> usize {
-    if is_whole(beginning) {
-        return skip_blanks(text, beginning.len());
+// A byte of the text.
+#[derive(Clone, Copy)]
+struct Found(u8);
+
+impl fmt::Display for Found {
+    fn fmt<W: fmt::Write>(&self, f: &mut fmt::Formatter<W>) -> fmt::Result {
+        match self.0 {
+            b'\t' => write!(f, "a tab"),
+            b' '..=b'~' => write!(f, "{}", Quoted(&[self.0])),
+            b => write!(f, "the byte 0x{b:02X}"),
+        }
     }
-    beginning.len()
 }
 
-fn put_column(out: &mut [u8], at: usize, line: &[u8], from: usize, place: usize) -> usize {
-    let start = skip_blanks(line, from) as u64;
-    let before = std::num::wrapping_add_u64(start, place as u64);
-    let column = std::num::wrapping_add_u64(before, 1);
-    put_number(out, at, b", column ", column)
+impl Fault<'_> {
+    // Where the text stops being an instruction: behind one that is whole, blanks are none of it.
+    fn place(&self, beginning: &[u8]) -> usize {
+        if read_instruction(beginning).is_ok() {
+            return skip_blanks(self.text, beginning.len());
+        }
+        beginning.len()
+    }
 }
 
-// What is wrong with the instruction that stands in a line of the text from a place on: the column, what is due there, and what stands there.
-pub fn put_fault(out: &mut [u8], at: usize, line: &[u8], from: usize) -> usize {
-    let text = content(line, from);
-    let read = read_instruction(text);
-    let Instruction::Not(reach) = read else {
-        // Not reached: the line is wrong.
-        return at;
-    };
-    let length = least(reach, text.len());
-    let beginning = &text[0..length];
-    let place = fault_place(text, beginning);
-    let numbered = put_column(out, at, line, from, place);
-    if text.len() <= place {
-        let told = put_text(out, numbered, b": the line is cut off: ");
-        return put_due(out, told, beginning);
+impl fmt::Display for Fault<'_> {
+    fn fmt<W: fmt::Write>(&self, f: &mut fmt::Formatter<W>) -> fmt::Result {
+        let beginning = &self.text[..self.reach.min(self.text.len())];
+        let place = self.place(beginning);
+        let column = self.start.wrapping_add(place).wrapping_add(1);
+        let due = Due(beginning);
+        match self.text.get(place) {
+            Some(b) => write!(f, ", column {column}: {due}, not {}", Found(*b)),
+            None => write!(f, ", column {column}: the line is cut off: {due}"),
+        }
     }
-    let parted = put_text(out, numbered, b": ");
-    let told = put_due(out, parted, beginning);
-    let named = put_text(out, told, b", not ");
-    put_found(out, named, text[place])
 }

@@ -1,79 +1,56 @@
 // An instruction: a line of the grammar, or a word that has none, as `.inst 0x` and one to eight hexadecimal digits.
-use grammar::types::LineRead;
-use isa::types::{Op, Written};
-use text::digit_value;
+use isa::types::Op;
 
-// Its word; or none, and the length of the longest beginning that some instruction has.
-#[derive(Clone, Copy)]
-pub enum Instruction {
-    Word(u32),
-    Not(usize),
+// Not an instruction: the length of the longest beginning that some instruction has.
+#[derive(Clone, Copy, Debug, PartialEq, Eq)]
+pub struct NotInstruction {
+    pub reach: usize,
 }
 
-const DIRECTIVE: [u8; 8] = *b".inst 0x";
+const DIRECTIVE: &[u8; 8] = b".inst 0x";
 
 const MOST_DIGITS: usize = 8;
 
 // How much of the directive's name stands at the start.
 fn along(s: &[u8]) -> usize {
-    let mut i = 0;
-    while i < 8 && i < s.len() && s[i] == DIRECTIVE[i] {
-        i += 1;
+    s.iter().zip(DIRECTIVE).take_while(|(a, b)| a == b).count()
+}
+
+fn word_of_digits(digits: &[u8]) -> u32 {
+    digits.iter().fold(0, |word, b| {
+        word << 4 | char::from(*b).to_digit(16).unwrap_or(0)
+    })
+}
+
+fn read_directive(s: &[u8]) -> Result<u32, NotInstruction> {
+    let Some(digits) = s.strip_prefix(DIRECTIVE) else {
+        return Err(NotInstruction { reach: along(s) });
+    };
+    let count = digits
+        .iter()
+        .take(MOST_DIGITS)
+        .take_while(|b| b.is_ascii_hexdigit())
+        .count();
+    if count == 0 || count < digits.len() {
+        return Err(NotInstruction { reach: 8 + count });
     }
-    i
+    Ok(word_of_digits(digits))
 }
 
-#[derive(Clone, Copy)]
-struct Digits {
-    word: u32,
-    count: usize,
-}
-
-fn with_digit(word: u32, digit: u8) -> u32 {
-    (word % 268435456 << 4) + (digit % 16) as u32
-}
-
-fn digits_of(s: &[u8]) -> Digits {
-    let mut word = 0;
-    let mut i = 0;
-    while i < MOST_DIGITS && i < s.len() && digit_value(s[i]) < 16 {
-        word = with_digit(word, digit_value(s[i]));
-        i += 1;
-    }
-    Digits { word, count: i }
-}
-
-fn read_directive(s: &[u8]) -> Instruction {
-    let n = along(s);
-    if n < 8 || s.len() < 8 {
-        return Instruction::Not(n);
-    }
-    let digits = digits_of(&s[8..]);
-    let count = digits.count;
-    if count == 0 || s.len() - 8 != count {
-        return Instruction::Not(8 + count % 16);
-    }
-    Instruction::Word(digits.word)
-}
-
-fn word_of(op: Op) -> Instruction {
-    let written = codec::encode(op);
-    match written {
-        Written::Word(word) => Instruction::Word(word),
+fn word_of(op: Op) -> Result<u32, NotInstruction> {
+    match codec::encode(op) {
+        Ok(word) => Ok(word),
         // Not reached: an operation that has a line has a word.
-        _ => Instruction::Not(0),
+        Err(_) => Err(NotInstruction { reach: 0 }),
     }
 }
 
-pub fn read_instruction(s: &[u8]) -> Instruction {
-    if 0 < s.len() {
-        if s[0] == b'.' {
-            return read_directive(s);
-        }
+pub fn read_instruction(s: &[u8]) -> Result<u32, NotInstruction> {
+    if s.starts_with(b".") {
+        return read_directive(s);
     }
-    let read = line_reader::read_line(s);
-    match read {
-        LineRead::Operation(op) => word_of(op),
-        LineRead::NotLine(reach) => Instruction::Not(reach),
+    match line_reader::read_line(s) {
+        Ok(op) => word_of(op),
+        Err(none) => Err(NotInstruction { reach: none.reach }),
     }
 }

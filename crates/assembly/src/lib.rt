@@ -5,27 +5,22 @@ mod fault;
 mod instruction;
 mod place;
 
-use crate::instruction::{Instruction, read_instruction};
-use crate::place::content;
-pub use fault::put_fault;
+use crate::instruction::read_instruction;
+use crate::place::{content, skip_blanks};
+pub use fault::Fault;
 
-// What a line comes to. `put_fault` tells what is wrong.
-#[derive(Clone, Copy)]
-pub enum Assembled {
-    Nothing,
-    Word(u32),
-    Wrong,
-}
-
-// The instruction that stands in a line of the text from a place on.
-pub fn assemble(line: &[u8], from: usize) -> Assembled {
+// The word of the instruction that stands in a line of the text from a place on, or none where nothing stands there.
+pub fn assemble(line: &[u8], from: usize) -> Result<Option<u32>, Fault<'_>> {
     let text = content(line, from);
-    if text.len() == 0 {
-        return Assembled::Nothing;
+    if text.is_empty() {
+        return Ok(None);
     }
-    let read = read_instruction(text);
-    match read {
-        Instruction::Word(word) => Assembled::Word(word),
-        Instruction::Not(_) => Assembled::Wrong,
+    match read_instruction(text) {
+        Ok(word) => Ok(Some(word)),
+        Err(not) => Err(Fault {
+            text,
+            start: skip_blanks(line, from),
+            reach: not.reach,
+        }),
     }
 }

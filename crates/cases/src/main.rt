@@ -5,7 +5,6 @@
 
 ghost use Rattle.std.specs.Prelude.{◌≡◌, ◌<◌, ◌≤◌, length, take};
 
-use common::bits32::word;
 use isa::types::Ran;
 use regfile::check::{asked_number, check_register};
 use regfile::part::{register, register_read};
@@ -53,22 +52,18 @@ fn fill(file: &mut [u8], seed: u32) {
     let width = width_of(seed);
     let mut x = START ^ (seed as u64);
     let mut kind = 0;
-    for i in 0..file.len() {
+    for (i, byte) in file.iter_mut().enumerate() {
         x = following(x);
         if i % width == 0 {
             kind = (x >> 32) % 8;
         }
-        file[i] = byte_of(kind, i % width == width - 1, x);
+        *byte = byte_of(kind, i % width == width - 1, x);
     }
 }
 
 // Each byte is mixed in and the whole moved on, so that its place counts.
 fn digest(file: &[u8]) -> u64 {
-    let mut x = START;
-    for i in 0..file.len() {
-        x = mixed(x, file[i]);
-    }
-    x
+    file.iter().fold(START, |x, byte| mixed(x, *byte))
 }
 
 fn mixed(x: u64, byte: u8) -> u64 {
@@ -77,24 +72,22 @@ fn mixed(x: u64, byte: u8) -> u64 {
 
 // ---- reading
 
-fn read_words(mut stdin: Stdin, words: &mut [u32]) -> bool {
-    for i in 0..words.len() {
-        let mut b = [0u8; 4];
-        if stdin.read_exact(&mut b).is_err() {
-            return false;
-        }
-        words[i] = word(b[0], b[1], b[2], b[3]);
+fn read_words(mut stdin: Stdin, words: &mut [u32]) -> io::Result<()> {
+    for word in words {
+        let mut bytes = [0; 4];
+        stdin.read_exact(&mut bytes)?;
+        *word = u32::from_le_bytes(bytes);
     }
-    true
+    Ok(())
 }
 
 // The file from its seed, or read.
-fn read_file(mut stdin: Stdin, file: &mut [u8], seed: u32) -> bool {
+fn read_file(mut stdin: Stdin, file: &mut [u8], seed: u32) -> io::Result<()> {
     if seed == 0 {
-        return stdin.read_exact(file).is_ok();
+        return stdin.read_exact(file);
     }
     fill(file, seed);
-    true
+    Ok(())
 }
 
 // ---- printing
@@ -111,7 +104,7 @@ fn print_ran(stdout: Stdout, ran: Ran, file: &[u8]) -> io::Result<()> {
     let ending = ran.ending;
     print_number(stdout, exec::ending_number(ending) as usize)?;
     print_number(stdout, ran.done)?;
-    print_number(stdout, if ran.qc { 1 } else { 0 })?;
+    print_number(stdout, ran.qc as usize)?;
     print_digest(stdout, file)
 }
 
@@ -119,8 +112,8 @@ fn print_ran(stdout: Stdout, ran: Ran, file: &[u8]) -> io::Result<()> {
 
 // Every byte becomes another, so that a digest tells which were lent. Answers how many.
 fn complement(part: &mut [u8]) -> usize {
-    for i in 0..part.len() {
-        part[i] = part[i] ^ 255;
+    for byte in &mut *part {
+        *byte ^= 255;
     }
     part.len()
 }
@@ -173,7 +166,7 @@ fn print_run(
     qc: bool,
     words: &mut [u32],
 ) -> io::Result<bool> {
-    if !read_words(stdin, words) {
+    if read_words(stdin, words).is_err() {
         return Ok(false);
     }
     print_ran(stdout, exec::run(l, file, qc, words), file)?;
@@ -218,7 +211,7 @@ fn print_case(
 }
 
 fn case_on(stdin: Stdin, stdout: Stdout, head: [u32; 6], file: &mut [u8]) -> io::Result<bool> {
-    if !read_file(stdin, file, head[5]) {
+    if read_file(stdin, file, head[5]).is_err() {
         return Ok(false);
     }
     if !print_case(
@@ -246,7 +239,7 @@ fn case_sized(stdin: Stdin, stdout: Stdout, head: [u32; 6], size: usize) -> io::
 
 fn run_case(stdin: Stdin, stdout: Stdout) -> io::Result<bool> {
     let mut head = [0u32; 6];
-    if !read_words(stdin, &mut head) {
+    if read_words(stdin, &mut head).is_err() {
         return Ok(false);
     }
     case_sized(stdin, stdout, head, wide(head[2]))

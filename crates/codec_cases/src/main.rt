@@ -2,11 +2,8 @@
 // A case is little-endian numbers of 4 bytes: a kind, and then the word (kind 1) or the eight fields of an operation (kind 2).
 #![tactic(auto)]
 
-ghost use Rattle.std.specs.Prelude.{◌<◌};
-
-use fields::types::Named;
 use fields::{fields_of, named_by, read_numbers};
-use isa::types::{Decoded, Op, Written};
+use isa::types::{Decoded, Op};
 use std::io;
 use std::io::{Read, Stdin, Stdout};
 
@@ -24,21 +21,16 @@ fn print_word(stdout: Stdout, word: u32) -> io::Result<()> {
 }
 
 fn print_fields(stdout: Stdout, f: [u32; 8]) -> io::Result<()> {
-    print_number(stdout, f[0])?;
-    print_number(stdout, f[1])?;
-    print_number(stdout, f[2])?;
-    print_number(stdout, f[3])?;
-    print_number(stdout, f[4])?;
-    print_number(stdout, f[5])?;
-    print_number(stdout, f[6])?;
-    print_number(stdout, f[7])
+    for number in f {
+        print_number(stdout, number)?;
+    }
+    Ok(())
 }
 
 fn print_decoded(stdout: Stdout, word: u32) -> io::Result<()> {
     print!(stdout; "D")?;
     print_word(stdout, word)?;
-    let decoded = codec::decode(word);
-    match decoded {
+    match codec::decode(word) {
         Decoded::Operation(op) => {
             print_number(stdout, 0)?;
             print_fields(stdout, fields_of(op))
@@ -54,14 +46,9 @@ fn print_answer(stdout: Stdout, number: u32, word: u32) -> io::Result<()> {
 }
 
 fn print_written(stdout: Stdout, op: Op) -> io::Result<()> {
-    let written = codec::encode(op);
-    match written {
-        Written::Word(word) => print_answer(stdout, 0, word),
-        Written::NoSize => print_answer(stdout, 7, 0),
-        Written::NoRotation => print_answer(stdout, 8, 0),
-        Written::RegisterLimit => print_answer(stdout, 9, 0),
-        Written::GroupStart => print_answer(stdout, 14, 0),
-        Written::IndexLimit => print_answer(stdout, 10, 0),
+    match codec::encode(op) {
+        Ok(word) => print_answer(stdout, 0, word),
+        Err(refusal) => print_answer(stdout, refusal as u32, 0),
     }
 }
 
@@ -69,51 +56,39 @@ fn print_written(stdout: Stdout, op: Op) -> io::Result<()> {
 fn print_named(stdout: Stdout, f: [u32; 8]) -> io::Result<()> {
     print!(stdout; "E")?;
     print_fields(stdout, f)?;
-    let named = named_by(read_numbers(&f));
-    match named {
-        Named::Operation(op) => print_written(stdout, op),
-        Named::Nothing => Ok(()),
+    match named_by(read_numbers(&f)) {
+        Some(op) => print_written(stdout, op),
+        None => Ok(()),
     }
 }
 
 // ---- cases
 
-fn wide(x: u8) -> u32
-    ensures { result < 256 }
-{
-    x as u32
+// The next number of standard input.
+fn read_number(mut stdin: Stdin) -> io::Result<u32> {
+    let mut bytes = [0; 4];
+    stdin.read_exact(&mut bytes)?;
+    Ok(u32::from_le_bytes(bytes))
 }
 
-// The next number of standard input; 0, which is no kind, where it has ended.
-fn read_number(mut stdin: Stdin) -> u32 {
-    let mut b = [0u8; 4];
-    if stdin.read_exact(&mut b).is_err() {
-        return 0;
-    }
-    wide(b[0]) + (wide(b[1]) << 8) + (wide(b[2]) << 16) + (wide(b[3]) << 24)
+// A number that is cut off is 0.
+fn read_field(stdin: Stdin) -> u32 {
+    read_number(stdin).unwrap_or(0)
 }
 
 fn read_fields(stdin: Stdin) -> [u32; 8] {
-    [
-        read_number(stdin),
-        read_number(stdin),
-        read_number(stdin),
-        read_number(stdin),
-        read_number(stdin),
-        read_number(stdin),
-        read_number(stdin),
-        read_number(stdin),
-    ]
+    let mut fields = [0; 8];
+    for field in &mut fields {
+        *field = read_field(stdin);
+    }
+    fields
 }
 
 fn run_case(stdin: Stdin, stdout: Stdout) -> io::Result<bool> {
-    let kind = read_number(stdin);
-    match kind {
-        1 => print_decoded(stdout, read_number(stdin))?,
-        2 => print_named(stdout, read_fields(stdin))?,
-        _ => {
-            return Ok(false);
-        }
+    match read_number(stdin) {
+        Ok(1) => print_decoded(stdout, read_field(stdin))?,
+        Ok(2) => print_named(stdout, read_fields(stdin))?,
+        _ => return Ok(false),
     }
     print!(stdout; "\n")?;
     Ok(true)

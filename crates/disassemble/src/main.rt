@@ -1,13 +1,12 @@
 // Writes a line for each instruction word of standard input: an assembly text that gives the same words back. docs/asm.md has the format.
 #![tactic(auto)]
 
-ghost use Rattle.std.specs.Prelude.{◌≤◌, length};
-
-use codec::word_at;
-use grammar::types::LineWritten;
+use input::ReadError;
 use isa::types::{Decoded, Op};
-use std::io::{Stderr, Stdin, Stdout};
-use text::{print_start, put_byte, put_number, put_text, put_word};
+use std::fmt;
+use std::fmt::Write;
+use std::io::{Stdin, Stdout};
+use text::Text;
 
 // Bytes of one piece: a multiple of 4.
 const PIECE: usize = 32768;
@@ -18,118 +17,96 @@ const ROOM: usize = 393216;
 // Nothing says that the input ends, so the loop counts the pieces: 2^55 bytes are no limit.
 const PIECES: usize = 1099511627776;
 
-// Room for the longest message.
-const MESSAGE: usize = 128;
+// Why it stops before the input's end, or what the input leaves over.
+#[derive(Clone, Copy)]
+enum Failure {
+    Unread,
+    Unwritten,
+    LeftOver(usize),
+    TooLong,
+}
+
+impl fmt::Display for Failure {
+    fn fmt<W: fmt::Write>(&self, f: &mut fmt::Formatter<W>) -> fmt::Result {
+        match self {
+            Failure::Unread => write!(f, "the input could not be read"),
+            Failure::Unwritten => write!(f, "the output could not be written"),
+            Failure::LeftOver(n) => { write!(f, "bytes left over behind the last whole word: {n}") }
+            Failure::TooLong => write!(f, "the input is longer than 2^55 bytes"),
+        }
+    }
+}
+
+impl From<ReadError> for Failure {
+    fn from(_e: ReadError) -> Failure {
+        Failure::Unread
+    }
+}
 
 // ---- a line
 
-fn put_other(out: &mut [u8], at: usize, word: u32, why: &[u8]) -> usize {
-    let named = put_text(out, at, b".inst 0x");
-    let put = put_word(out, named, word);
-    let parted = put_text(out, put, b" // ");
-    put_text(out, parted, why)
+fn line_length(op: Op, room: &mut [u8]) -> usize {
+    // No refusal is met: an operation that a word is has a line, and ROOM is enough for a full piece.
+    line_writer::write_line(op, room).unwrap_or(0)
 }
 
-// The place past n more bytes, within the buffer.
-fn place_behind(at: usize, n: usize, most: usize) -> usize {
-    if most <= at {
-        return most;
-    }
-    if most - at < n {
-        return most;
-    }
-    at + n
+fn put_other(out: &mut Text<ROOM>, word: u32, why: &str) {
+    let _ = write!(out, ".inst 0x{word:08X} // {why}");
 }
 
-fn put_operation(out: &mut [u8], at: usize, op: Op) -> usize {
-    if out.len() <= at {
-        // Not reached: ROOM is enough for a full piece.
-        return at;
+fn put_instruction(out: &mut Text<ROOM>, word: u32) {
+    match codec::decode(word) {
+        Decoded::Operation(op) => out.push_with(|room| line_length(op, room)),
+        Decoded::Reserved => put_other(out, word, "RESERVED"),
+        Decoded::Outside => put_other(out, word, "OUTSIDE"),
     }
-    let written = line_writer::write_line(op, &mut out[at..]);
-    match written {
-        LineWritten::Length(n) => place_behind(at, n, out.len()),
-        // Not reached: an operation that a word is has a line.
-        _ => at,
-    }
-}
-
-fn put_instruction(out: &mut [u8], at: usize, word: u32) -> usize {
-    let decoded = codec::decode(word);
-    match decoded {
-        Decoded::Operation(op) => put_operation(out, at, op),
-        Decoded::Reserved => put_other(out, at, word, b"RESERVED"),
-        Decoded::Outside => put_other(out, at, word, b"OUTSIDE"),
-    }
+    out.push(b'\n');
 }
 
 // ---- pieces
 
 // The lines of the whole words.
-fn put_lines(out: &mut [u8], bytes: &[u8]) -> usize {
-    let mut at = 0;
-    for k in 0..bytes.len() / 4 {
-        let end = put_instruction(out, at, word_at(bytes, k << 2));
-        at = put_byte(out, end, b'\n');
+fn put_lines(out: &mut Text<ROOM>, bytes: &[u8]) {
+    let (words, _) = bytes.as_chunks::<4>();
+    for word in words {
+        put_instruction(out, u32::from_le_bytes(*word));
     }
-    at
 }
 
-fn tell_left_over(n: usize, stderr: Stderr) {
-    let mut out = [0u8; MESSAGE];
-    let told = put_number(
-        &mut out,
-        0,
-        b"kob disasm: bytes left over behind the last whole word: ",
-        n as u64,
-    );
-    let end = put_byte(&mut out, told, b'\n');
-    print_start(&stderr, &out, end);
-}
-
-fn write_lines(bytes: &[u8], out: &mut [u8], stdout: Stdout, stderr: Stderr) -> bool {
-    let n = put_lines(out, bytes);
-    if print_start(&stdout, out, n) {
-        return true;
-    }
-    let _ = stderr.write_all(b"kob disasm: the output could not be written\n");
-    false
-}
-
-// Reads a piece and writes its lines. A piece that does not fill the buffer is the last. Whether more may follow.
+// Reads a piece and writes its lines, also of what came before a read failed. A piece that does not fill the buffer is the last. Whether more may follow.
 fn take_piece(
     buf: &mut [u8],
-    out: &mut [u8],
+    out: &mut Text<ROOM>,
     mut stdin: Stdin,
     stdout: Stdout,
-    stderr: Stderr,
-) -> bool {
+) -> Result<bool, Failure> {
     let filled = input::fill(&mut stdin, buf);
-    let n = filled.length;
-    if !write_lines(&buf[0..n], out, stdout, stderr) {
-        return false;
+    let n = filled.unwrap_or_else(|e| e.length);
+    out.truncate(0);
+    put_lines(out, &buf[..n]);
+    if stdout.write_all(out.as_bytes()).is_err() {
+        return Err(Failure::Unwritten);
     }
-    if filled.failed {
-        let _ = stderr.write_all(b"kob disasm: the input could not be read\n");
-        return false;
-    }
+    filled?;
     if n % 4 != 0 {
-        tell_left_over(n % 4, stderr);
+        return Err(Failure::LeftOver(n % 4));
     }
-    n == buf.len()
+    Ok(n == buf.len())
 }
 
-fn take_all(buf: &mut [u8], out: &mut [u8], stdin: Stdin, stdout: Stdout, stderr: Stderr) {
+fn take_all(stdin: Stdin, stdout: Stdout) -> Result<(), Failure> {
+    let mut buf = [0u8; PIECE];
+    let mut out = Text::new();
     for _ in 0..PIECES {
-        if !take_piece(buf, out, stdin, stdout, stderr) {
-            return;
+        if !take_piece(&mut buf, &mut out, stdin, stdout)? {
+            return Ok(());
         }
     }
-    let _ = stderr.write_all(b"kob disasm: the input is longer than 2^55 bytes\n");
+    Err(Failure::TooLong)
 }
 
 fn main(rt: HostRuntime) {
-    let mut buf = [0u8; PIECE];
-    let mut out = [0u8; ROOM];
-    take_all(&mut buf, &mut out, rt.stdin(), rt.stdout(), rt.stderr());
+    if let Err(failure) = take_all(rt.stdin(), rt.stdout()) {
+        let _ = eprintln!(rt; "kob disasm: {failure}");
+    }
 }

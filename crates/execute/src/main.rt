@@ -2,21 +2,20 @@
 // docs/execute.md has the format.
 #![tactic(auto)]
 
-ghost use Rattle.std.specs.Prelude.{◌≤◌};
-
 mod fault;
-mod parse;
-mod part;
+mod file;
+mod line;
 mod report;
-mod scan;
+mod request;
 
-use crate::fault::{Fault, put_fault};
-use crate::parse::{Parsed, Request, read_text};
-use crate::part::part_mut;
-use crate::report::put_report;
-use isa::types::Ran;
-use std::io::{Stderr, Stdout};
-use text::print_start;
+use crate::fault::Refusal;
+use crate::report::Report;
+use crate::request::read_text;
+use input::ReadError;
+use std::fmt;
+use std::fmt::Write;
+use std::io::Stdin;
+use text::Text;
 
 // The longest text.
 const MOST_TEXT: usize = 65536;
@@ -24,82 +23,74 @@ const MOST_TEXT: usize = 65536;
 // One byte more, which shows that a text is longer.
 const TEXT: usize = 65537;
 
-// The file at a length of 4,096, the longest that the text may give.
-const FILE: usize = 16384;
-
-// One word more than the library takes.
-const WORDS: usize = 4097;
-
 // Room for the longest report: 32 lines of 512 lanes of up to 5 characters, and some lines.
 const OUT: usize = 98304;
 
-// Room for the longest message.
-const MESSAGE: usize = 256;
-
-fn least(a: usize, b: usize) -> usize
-    ensures { result ≤ b }
-{
-    if a < b { a } else { b }
+// Why there is no report.
+#[derive(Clone, Copy)]
+enum Failure<'a> {
+    Unread,
+    TooLong,
+    Refused(Refusal<'a>),
+    Unwritten,
 }
 
-fn run(request: Request, file: &mut [u8], words: &[u32]) -> Ran {
-    let held = part_mut(file, 0, request.length << 2);
-    let count = least(request.words, words.len());
-    exec::run(request.length, held, request.qc, &words[0..count])
+impl fmt::Display for Failure<'_> {
+    fn fmt<W: fmt::Write>(&self, f: &mut fmt::Formatter<W>) -> fmt::Result {
+        match self {
+            Failure::Unread => write!(f, "the input could not be read"),
+            Failure::TooLong => write!(f, "the input is longer than {MOST_TEXT} bytes"),
+            Failure::Refused(refusal) => write!(f, "{refusal}"),
+            Failure::Unwritten => write!(f, "the output could not be written"),
+        }
+    }
 }
 
-fn tell(
-    request: Request,
-    ran: Ran,
-    before: &[u8],
-    after: &[u8],
-    words: &[u32],
-    stdout: Stdout,
-    stderr: Stderr,
-) {
-    let mut out = [0u8; OUT];
-    let n = put_report(&mut out, request, ran, before, after, words);
-    if !print_start(&stdout, &out, n) {
-        let _ = stderr.write_all(b"kob run: the output could not be written\n");
+impl From<ReadError> for Failure<'_> {
+    fn from(_: ReadError) -> Self {
+        Failure::Unread
     }
 }
 
-fn refuse(fault: Fault, line: u64, text: &[u8], stderr: Stderr) {
-    let mut out = [0u8; MESSAGE];
-    let n = put_fault(&mut out, fault, line, text);
-    print_start(&stderr, &out, n);
+impl<'a> From<Refusal<'a>> for Failure<'a> {
+    fn from(refusal: Refusal<'a>) -> Self {
+        Failure::Refused(refusal)
+    }
 }
 
-fn execute(text: &[u8], stdout: Stdout, stderr: Stderr) {
-    let mut file = [0u8; FILE];
-    let mut words = [0u32; WORDS];
-    let parsed = read_text(text, &mut file, &mut words);
-    match parsed {
-        Parsed::Taken(request) => {
-            let before = file;
-            let ran = run(request, &mut file, &words);
-            tell(request, ran, &before, &file, &words, stdout, stderr);
-        }
-        Parsed::Wrong(fault, line, at) => {
-            let start = least(at, text.len());
-            refuse(fault, line, &text[start..], stderr);
-        }
+fn read<'a>(mut stdin: Stdin, buffer: &'a mut [u8]) -> Result<&'a [u8], Failure<'a>> {
+    let length = input::fill(&mut stdin, buffer)?;
+    if length > MOST_TEXT {
+        return Err(Failure::TooLong);
     }
+    Ok(&buffer[..length])
+}
+
+fn execute<'a>(stdin: Stdin, stdout: &impl Print, buffer: &'a mut [u8]) -> Result<(), Failure<'a>> {
+    let mut request = read_text(read(stdin, buffer)?)?;
+    let before = request.file;
+    let ran = exec::run(
+        request.file.bits(),
+        request.file.lent(),
+        request.qc,
+        request.words.as_slice(),
+    );
+    let report = Report {
+        request: &request,
+        before: &before,
+        ran,
+    };
+    // In one piece, so that a reader of its first line alone closes the pipe behind all of it.
+    let mut out = Text::<OUT>::new();
+    let _ = write!(out, "{report}");
+    stdout
+        .write_all(out.as_bytes())
+        .map_err(|_| Failure::Unwritten)
 }
 
 fn main(rt: HostRuntime) {
-    let mut text = [0u8; TEXT];
-    let mut stdin = rt.stdin();
-    let stderr = rt.stderr();
-    let filled = input::fill(&mut stdin, &mut text);
-    if filled.failed {
-        let _ = stderr.write_all(b"kob run: the input could not be read\n");
-        return;
+    let mut buffer = [0u8; TEXT];
+    if let Err(failure) = execute(rt.stdin(), &rt.stdout(), &mut buffer) {
+        let _ = eprintln!(rt; "kob run: {failure}");
     }
-    let n = filled.length;
-    if MOST_TEXT < n {
-        let _ = stderr.write_all(b"kob run: the input is longer than 65536 bytes\n");
-        return;
-    }
-    execute(&text[0..n], rt.stdout(), stderr);
 }

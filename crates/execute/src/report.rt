@@ -1,180 +1,139 @@
 // What a run came to, as text.
-use crate::parse::Request;
-use crate::part::part;
-use isa::types::{Ending, Ran};
-use text::{put_byte, put_hex, put_line, put_number, put_word};
+ghost use Rattle.std.specs.Prelude.{◌<◌};
 
-// What the answers mean: a line each, as `meaning_line` counts them.
-const MEANINGS: [u8; 163] = *b" done
- length not a multiple of 128 from 128 to 2,048
- length not a power of two
- file not 4 x L bytes
- more than 4,096 words
- word outside the set
- reserved word
-";
+use crate::file::File;
+use crate::request::Request;
+use isa::types::{Ending, Ran, Size};
+use std::fmt;
+
+// What the answers mean.
+fn meaning(ending: Ending) -> &'static str {
+    match ending {
+        Ending::Done => "done",
+        Ending::BadLength => "length not a multiple of 128 from 128 to 2,048",
+        Ending::NotPowerOfTwo => "length not a power of two",
+        Ending::BadSize => "file not 4 x L bytes",
+        Ending::TooLong => "more than 4,096 words",
+        Ending::Outside => "word outside the set",
+        Ending::Reserved => "reserved word",
+    }
+}
 
 // ---- registers
 
-fn same(a: &[u8], b: &[u8]) -> bool {
-    let mut i = 0;
-    while i < a.len() && i < b.len() {
-        if a[i] != b[i] {
-            return false;
+// The bytes of a lane.
+fn width_of(size: Size) -> usize
+    ensures { 0 < result }
+{
+    match size {
+        Size::B => 1,
+        Size::H => 2,
+        Size::S => 4,
+        Size::D => 8,
+    }
+}
+
+// A lane's value in two's complement.
+fn value_of(lane: &[u8]) -> i64 {
+    let sign = match lane.last() {
+        Some(128..) => -1,
+        _ => 0,
+    };
+    lane.iter()
+        .rev()
+        .fold(sign, |value, b| value << 8 | i64::from(*b))
+}
+
+// A register's line: its lanes, or where no size is given its bytes, with a space before every 16.
+#[derive(Clone, Copy)]
+struct Register<'a> {
+    number: usize,
+    bytes: &'a [u8],
+    lanes: Option<Size>,
+}
+
+impl fmt::Display for Register<'_> {
+    fn fmt<W: fmt::Write>(&self, f: &mut fmt::Formatter<W>) -> fmt::Result {
+        let number = self.number;
+        write!(f, "z{number}")?;
+        match self.lanes {
+            Some(size) => put_lanes(f, self.bytes, width_of(size))?,
+            None => put_bytes(f, self.bytes)?,
         }
-        i += 1;
+        writeln!(f)
     }
-    true
 }
 
-// Byte i, with a space before every 16 bytes.
-fn put_grouped(out: &mut [u8], at: usize, i: usize, b: u8) -> usize {
-    if i % 16 == 0 {
-        let parted = put_byte(out, at, b' ');
-        return put_hex(out, parted, b);
+fn put_lanes<W: fmt::Write>(f: &mut fmt::Formatter<W>, bytes: &[u8], width: usize) -> fmt::Result
+    requires { 0 < width }
+{
+    for lane in bytes.chunks_exact(width) {
+        let value = value_of(lane);
+        write!(f, " {value}")?;
     }
-    put_hex(out, at, b)
+    Ok(())
 }
 
-fn put_bytes(out: &mut [u8], at: usize, bytes: &[u8]) -> usize {
-    let mut place = at;
-    for i in 0..bytes.len() {
-        place = put_grouped(out, place, i, bytes[i]);
+fn put_bytes<W: fmt::Write>(f: &mut fmt::Formatter<W>, bytes: &[u8]) -> fmt::Result {
+    for (i, b) in bytes.iter().enumerate() {
+        if i % 16 == 0 {
+            write!(f, " ")?;
+        }
+        write!(f, "{b:02X}")?;
     }
-    place
-}
-
-fn with_byte(value: u64, b: u8) -> u64 {
-    (value % 72057594037927936 << 8) + b as u64
-}
-
-// The lane's value in two's complement at 64 bits.
-fn value_of(lane: &[u8]) -> u64 {
-    let mut i = lane.len();
-    let mut value = 0;
-    if 0 < i && 127 < lane[i - 1] {
-        value = 18446744073709551615;
-    }
-    while 0 < i {
-        i -= 1;
-        value = with_byte(value, lane[i]);
-    }
-    value
-}
-
-fn put_lane(out: &mut [u8], at: usize, lane: &[u8]) -> usize {
-    let value = value_of(lane);
-    if value < 9223372036854775808 {
-        return put_number(out, at, b" ", value);
-    }
-    put_number(out, at, b" -", std::num::wrapping_sub_u64(0, value))
-}
-
-// By lanes of this width, or by bytes where it is 0.
-fn put_contents(out: &mut [u8], at: usize, bytes: &[u8], width: usize) -> usize {
-    if width == 0 {
-        return put_bytes(out, at, bytes);
-    }
-    let mut place = at;
-    for i in 0..bytes.len() / width {
-        place = put_lane(out, place, part(bytes, i, width));
-    }
-    place
-}
-
-// Is register n printed in any case?
-fn is_shown(request: Request, n: usize) -> bool {
-    request.shown >> (n % 32) & 1 == 1
-}
-
-// A line for register n, if it changed or is asked for.
-fn put_register(
-    out: &mut [u8],
-    at: usize,
-    n: usize,
-    was: &[u8],
-    is: &[u8],
-    request: Request,
-) -> usize {
-    if same(was, is) && !is_shown(request, n) {
-        return at;
-    }
-    let named = put_number(out, at, b"z", n as u64);
-    let told = put_contents(out, named, is, request.lane);
-    put_byte(out, told, b'\n')
-}
-
-fn put_registers(
-    out: &mut [u8],
-    at: usize,
-    request: Request,
-    before: &[u8],
-    after: &[u8],
-) -> usize {
-    let width = request.length / 8;
-    let mut place = at;
-    for n in 0..32 {
-        let was = part(before, n, width);
-        let is = part(after, n, width);
-        place = put_register(out, place, n, was, is, request);
-    }
-    place
+    Ok(())
 }
 
 // ---- the run
 
-fn meaning_line(ending: Ending) -> usize {
-    match ending {
-        Ending::Done => 0,
-        Ending::BadLength => 1,
-        Ending::NotPowerOfTwo => 2,
-        Ending::BadSize => 3,
-        Ending::TooLong => 4,
-        Ending::Outside => 5,
-        Ending::Reserved => 6,
+// The whole report: what was asked for, with the registers as the run left them, those before it, and the answer.
+#[derive(Clone, Copy)]
+pub struct Report<'a> {
+    pub request: &'a Request,
+    pub before: &'a File,
+    pub ran: Ran,
+}
+
+impl Report<'_> {
+    // The word that ended the run, and its place.
+    fn put_place<W: fmt::Write>(&self, f: &mut fmt::Formatter<W>) -> fmt::Result {
+        let place = self.ran.done;
+        match (self.ran.ending, self.request.words.get(place)) {
+            (Ending::Outside | Ending::Reserved, Some(word)) => {
+                writeln!(f, "at word {place} {word:08X}")
+            }
+            _ => Ok(()),
+        }
+    }
+
+    // The registers that changed or are asked for.
+    fn put_registers<W: fmt::Write>(&self, f: &mut fmt::Formatter<W>) -> fmt::Result {
+        for number in 0..32 {
+            let bytes = self.request.file.register(number);
+            if self.request.is_shown(number) || bytes != self.before.register(number) {
+                let lanes = self.request.lanes;
+                let register = Register {
+                    number,
+                    bytes,
+                    lanes,
+                };
+                write!(f, "{register}")?;
+            }
+        }
+        Ok(())
     }
 }
 
-// The answer, the words done and the flag, at the start of out.
-fn put_ran(out: &mut [u8], ending: Ending, done: usize, qc: bool) -> usize {
-    let numbered = put_number(out, 0, b"answer ", exec::ending_number(ending) as u64);
-    let answered = put_line(out, numbered, &MEANINGS, meaning_line(ending));
-    let counted = put_number(out, answered, b"words done ", done as u64);
-    let flagged = put_number(out, counted, b"\nqc ", qc as u64);
-    put_byte(out, flagged, b'\n')
-}
-
-// Whether a word ended the run.
-fn at_word(ending: Ending) -> bool {
-    match ending {
-        Ending::Outside => true,
-        Ending::Reserved => true,
-        _ => false,
+impl fmt::Display for Report<'_> {
+    fn fmt<W: fmt::Write>(&self, f: &mut fmt::Formatter<W>) -> fmt::Result {
+        let ending = self.ran.ending;
+        let answer = exec::ending_number(ending);
+        let meaning = meaning(ending);
+        let done = self.ran.done;
+        let qc = u8::from(self.ran.qc);
+        writeln!(f, "answer {answer} {meaning}")?;
+        writeln!(f, "words done {done}\nqc {qc}")?;
+        self.put_place(f)?;
+        self.put_registers(f)
     }
-}
-
-// The word that ended the run, and its place, after answers 4 and 5.
-fn put_place(out: &mut [u8], at: usize, ending: Ending, n: usize, words: &[u32]) -> usize {
-    if !at_word(ending) || words.len() <= n {
-        return at;
-    }
-    let numbered = put_number(out, at, b"at word ", n as u64);
-    let parted = put_byte(out, numbered, b' ');
-    let told = put_word(out, parted, words[n]);
-    put_byte(out, told, b'\n')
-}
-
-// The whole report, at the start of out; answers its length.
-pub fn put_report(
-    out: &mut [u8],
-    request: Request,
-    ran: Ran,
-    before: &[u8],
-    after: &[u8],
-    words: &[u32],
-) -> usize {
-    let ending = ran.ending;
-    let told = put_ran(out, ending, ran.done, ran.qc);
-    let placed = put_place(out, told, ending, ran.done, words);
-    put_registers(out, placed, request, before, after)
 }

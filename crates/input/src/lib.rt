@@ -1,54 +1,47 @@
 // Input in pieces: one read, or as many as fill a lent buffer.
 #![tactic(auto)]
 
+ghost use Rattle.std.specs.Prelude.{◌≡◌, length, IfOk, IfErr};
 ghost use Rattle.input.specs.Filled.{ReadInto};
 
+use std::error::Error;
 use std::io::Read;
+use std::{fmt, io};
 
-// How many bytes were read, and whether a read failed after them.
-#[derive(Clone, Copy)]
-pub struct Filled {
+// A read failed, after so many bytes.
+#[derive(Clone, Copy, Debug, PartialEq, Eq)]
+pub struct ReadError {
     pub length: usize,
-    pub failed: bool,
 }
 
-// One read: what the input has by now, at most as much as the buffer takes. No byte and no failure is the input's end.
-pub fn read_some<R: Read>(input: &mut R, buf: &mut [u8]) -> Filled
-    ensures { ReadInto result.length buf.old buf.new }
-{
-    match input.read(buf) {
-        Ok(length) => Filled {
-            length,
-            failed: false,
-        },
-        Err(_) => Filled {
-            length: 0,
-            failed: true,
-        },
+impl fmt::Display for ReadError {
+    fn fmt<W: fmt::Write>(&self, f: &mut fmt::Formatter<W>) -> fmt::Result {
+        write!(f, "the input could not be read")
     }
+}
+
+impl Error for ReadError {}
+
+// One read: what the input has by now, at most as much as the buffer takes. No byte is the input's end.
+pub fn read_some<R: Read>(input: &mut R, buf: &mut [u8]) -> io::Result<usize>
+    ensures ok { IfOk result (λ n. ReadInto n buf.old buf.new) }
+    ensures kept { length buf.new ≡ length buf.old }
+{
+    input.read(buf)
 }
 
 // Reads until the buffer is full, the input ends or a read fails. A short read is not the end, and a failed one is told from it.
-pub fn fill<R: Read>(input: &mut R, buf: &mut [u8]) -> Filled
-    ensures { ReadInto result.length buf.old buf.new }
+pub fn fill<R: Read>(input: &mut R, buf: &mut [u8]) -> Result<usize, ReadError>
+    ensures ok { IfOk result (λ n. ReadInto n buf.old buf.new) }
+    ensures err { IfErr result (λ e. ReadInto e.length buf.old buf.new) }
 {
-    let mut done = 0;
-    while done < buf.len() {
-        let some = read_some(input, &mut buf[done..]);
-        let n = some.length;
-        if some.failed {
-            return Filled {
-                length: done,
-                failed: true,
-            };
-        }
+    let mut length = 0;
+    while length < buf.len() {
+        let n = read_some(input, &mut buf[length..]).map_err(|_| ReadError { length })?;
         if n == 0 {
             break;
         }
-        done += n;
+        length += n;
     }
-    Filled {
-        length: done,
-        failed: false,
-    }
+    Ok(length)
 }

@@ -3,8 +3,9 @@
 
 ghost use Rattle.std.specs.Prelude.{◌≤◌};
 
-use isa::types::Listed;
-use std::io::{Stderr, Stdin, Stdout};
+use input::ReadError;
+use std::fmt;
+use std::io::{Stdin, Stdout};
 
 // The most words that are listed.
 const LIMIT: usize = 1048576;
@@ -18,35 +19,44 @@ const ROOM: usize = 344096;
 // The words up to the limit fill 64 pieces. One more piece shows whether a whole word follows.
 const PIECES: usize = 65;
 
+// Why it stops before the listing's end.
 #[derive(Clone, Copy)]
-enum Step {
-    More(usize),
-    Over,
+enum Failure {
+    Unread,
+    Unwritten,
 }
 
-// Lists and writes one piece, where `done` words were listed before.
+impl fmt::Display for Failure {
+    fn fmt<W: fmt::Write>(&self, f: &mut fmt::Formatter<W>) -> fmt::Result {
+        match self {
+            Failure::Unread => write!(f, "the input could not be read"),
+            Failure::Unwritten => write!(f, "the output could not be written"),
+        }
+    }
+}
+
+impl From<ReadError> for Failure {
+    fn from(_e: ReadError) -> Failure {
+        Failure::Unread
+    }
+}
+
+// Lists and writes one piece, where `done` words were listed before. How many are listed now, or none where the listing is complete.
 fn list_bytes(
     done: usize,
     bytes: &[u8],
     last: bool,
     out: &mut [u8],
     stdout: Stdout,
-    stderr: Stderr,
-) -> Step {
-    let listed = listing::list_part(done, bytes, last, out);
-    let Listed::Text(part) = listed else {
+) -> Result<Option<usize>, Failure> {
+    let Some(part) = listing::list_part(done, bytes, last, out) else {
         // Not reached: ROOM is enough for a full piece.
-        return Step::Over;
+        return Ok(None);
     };
-    let length = part.length;
-    if stdout.write_all(&out[..length]).is_err() {
-        let _ = stderr.write_all(b"kob list: the output could not be written\n");
-        return Step::Over;
+    if stdout.write_all(&out[..part.length]).is_err() {
+        return Err(Failure::Unwritten);
     }
-    if part.ended {
-        return Step::Over;
-    }
-    Step::More(part.done)
+    Ok((!part.ended).then_some(part.done))
 }
 
 // Bytes to read next: a full piece, but no further than one word past the limit, so that LIMIT waits for nothing more.
@@ -56,44 +66,28 @@ fn wanted(done: usize, most: usize) -> usize
     if LIMIT < done {
         return 0;
     }
-    let left = (LIMIT - done << 2) + 4;
-    if left < most { left } else { most }
+    ((LIMIT - done << 2) + 4).min(most)
 }
 
-// Reads, lists and writes one piece. A piece that does not fill the buffer is the last.
-fn list_piece(
-    done: usize,
-    buf: &mut [u8],
-    out: &mut [u8],
-    mut stdin: Stdin,
-    stdout: Stdout,
-    stderr: Stderr,
-) -> Step {
-    let filled = input::fill(&mut stdin, buf);
-    if filled.failed {
-        let _ = stderr.write_all(b"kob list: the input could not be read\n");
-        return Step::Over;
-    }
-    let n = filled.length;
-    let last = n < buf.len();
-    list_bytes(done, &buf[..n], last, out, stdout, stderr)
-}
-
-// Nothing says that the input ends, so the loop counts the pieces.
-fn list_all(buf: &mut [u8], out: &mut [u8], stdin: Stdin, stdout: Stdout, stderr: Stderr) {
+// Reads, lists and writes the pieces. A piece that does not fill the buffer is the last.
+fn list_all(mut stdin: Stdin, stdout: Stdout) -> Result<(), Failure> {
+    let mut buf = [0u8; PIECE];
+    let mut out = [0u8; ROOM];
     let mut done = 0;
+    // Nothing says that the input ends, so the loop counts the pieces.
     for _ in 0..PIECES {
         let most = wanted(done, buf.len());
-        let step = list_piece(done, &mut buf[..most], out, stdin, stdout, stderr);
-        let Step::More(next) = step else {
-            return;
-        };
-        done = next;
+        let n = input::fill(&mut stdin, &mut buf[..most])?;
+        match list_bytes(done, &buf[..n], n < most, &mut out, stdout)? {
+            Some(next) => done = next,
+            None => return Ok(()),
+        }
     }
+    Ok(())
 }
 
 fn main(rt: HostRuntime) {
-    let mut buf = [0u8; PIECE];
-    let mut out = [0u8; ROOM];
-    list_all(&mut buf, &mut out, rt.stdin(), rt.stdout(), rt.stderr());
+    if let Err(failure) = list_all(rt.stdin(), rt.stdout()) {
+        let _ = eprintln!(rt; "kob list: {failure}");
+    }
 }

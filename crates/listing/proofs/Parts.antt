@@ -2,6 +2,7 @@
 use mathlib.Core.Path.{◌≡◌, refl, sym, ap, ◌∙◌, subst}
 use mathlib.Core.Logic.{◌↔◌}
 use mathlib.Core.Bool.{Bool, true, false}
+use Rattle.std.proofs.Common.{Option, Some, None}
 use mathlib.Core.List.{List, ◌++◌}
 use Prim.Native.Nat.{ℕ, ◌+◌, ◌*◌, ◌-◌, ◌/◌, ◌≤◌, ◌<◌}
 use native.Mathlib.Decide.{dec_le}
@@ -16,7 +17,6 @@ use Rattle.listing.specs.Listing.{PieceText, ascii, lines_of, tail_of, tail_line
 use Rattle.listing.specs.Call.{Wrote, PartOutcome, room_for, text_outcome, outcome_of_part, ListReturns, ListsAs}
 use Rattle.isa.specs.Number.{listed_number, listed_part}
 use Rattle.isa.specs.declared.types.ListedPart.{ListedPart}
-use Rattle.isa.specs.declared.types.Listed.{Listed}
 use Rattle.listing.proofs.WithText.{with-start, wrote_then}
 use Rattle.isa.proofs.Bytes.{words-length}
 use Rattle.listing.proofs.Lines.{lines-short}
@@ -24,7 +24,7 @@ use Rattle.listing.proofs.Decimal.{count-short, tail-short}
 
 -- a text that was put at the buffer's start
 text-outcome : {out : List ℕ} {r : ℕ} {out₁ : List ℕ} (a : PieceText) → Wrote out 0 a.text r out₁
-    → record { answer = Listed.Text (record { length = r; done = a.done; ended = a.ended }); out = out₁ } ≡ text_outcome a out
+    → record { answer = Some (record { length = r; done = a.done; ended = a.ended }); out = out₁ } ≡ text_outcome a out
 text-outcome {out} {r} {out₁} a w =
     let p : r ≡ length a.text = w.past ∙ zero-add (length a.text) in
     let q : out₁ ≡ a.text ++ drop (length a.text) out = w.held ∙ with-start out a.text in
@@ -49,19 +49,19 @@ all_fit bytes = omega (arith, lines-short (words_of bytes), words-length bytes)
 
 pub over-outcome : {out : List ℕ} {left n : ℕ} {out₁ : List ℕ} {r : ℕ} {out₂ : List ℕ} (done : ℕ) (bytes : List ℕ) → room_for bytes ≤ length out → left ≡ limit - done
     → Wrote out 0 (lines_of (take left (words_of bytes))) n out₁ → Wrote out₁ n limit_line r out₂
-    → record { answer = Listed.Text (record { length = r; done = done + left; ended = true }); out = out₂ } ≡ text_outcome (over_of done bytes) out
+    → record { answer = Some (record { length = r; done = done + left; ended = true }); out = out₂ } ≡ text_outcome (over_of done bytes) out
 over-outcome {out} {left} {n} {out₁} {r} {out₂} done bytes room e v w =
     let v' : Wrote out 0 (lines_of (take (limit - done) (words_of bytes))) n out₁ = subst (λ (k : ℕ). Wrote out 0 (lines_of (take k (words_of bytes))) n out₁) e v in
     rw e (text-outcome (over_of done bytes) (wrote_then v' w (omega (arith, lines_fit bytes (limit - done)))))
 
 pub more-outcome : {out : List ℕ} {r : ℕ} {out₁ : List ℕ} (done : ℕ) (bytes : List ℕ) → Wrote out 0 (lines_of (take (length bytes / 4) (words_of bytes))) r out₁
-    → record { answer = Listed.Text (record { length = r; done = done + length bytes / 4; ended = false }); out = out₁ } ≡ text_outcome (more_of done bytes) out
+    → record { answer = Some (record { length = r; done = done + length bytes / 4; ended = false }); out = out₁ } ≡ text_outcome (more_of done bytes) out
 more-outcome done bytes w = rw (sym (words-length bytes)) (text-outcome (more_of done bytes) (all_lines bytes w))
 
 pub last-outcome : {out : List ℕ} {n : ℕ} {out₁ : List ℕ} {m : ℕ} {out₂ : List ℕ} {r : ℕ} {out₃ : List ℕ} (done : ℕ) (bytes : List ℕ)
     → room_for bytes ≤ length out → done + length bytes / 4 ≤ limit
     → Wrote out 0 (lines_of (take (length bytes / 4) (words_of bytes))) n out₁ → Wrote out₁ n (tail_line (tail_of bytes)) m out₂ → Wrote out₂ m (total_line (done + length bytes / 4)) r out₃
-    → record { answer = Listed.Text (record { length = r; done = done + length bytes / 4; ended = true }); out = out₃ } ≡ text_outcome (last_of done bytes) out
+    → record { answer = Some (record { length = r; done = done + length bytes / 4; ended = true }); out = out₃ } ≡ text_outcome (last_of done bytes) out
 last-outcome {out} {n} {out₁} {m} {out₂} {r} {out₃} done bytes room h u v w =
     let e : done + length bytes / 4 ≡ done + length (words_of bytes) = ap (λ (k : ℕ). done + k) (sym (words-length bytes)) in
     let w' : Wrote out₂ m (total_line (done + length (words_of bytes))) r out₃ = subst (λ (k : ℕ). Wrote out₂ m (total_line k) r out₃) e w in
@@ -74,7 +74,7 @@ last-outcome {out} {n} {out₁} {m} {out₂} {r} {out₃} done bytes room h u v 
     (omega (arith, length-append (lines_of (words_of bytes)) (tail_line (tail_of bytes))))))
 
 -- the call: no room
-pub call-room : (done : ℕ) (bytes : List ℕ) (last : Bool) (out : List ℕ) → leb (room_for bytes) (length out) ≡ false → record { answer = Listed.Room; out = out } ≡ outcome_of_part done bytes last out
+pub call-room : (done : ℕ) (bytes : List ℕ) (last : Bool) (out : List ℕ) → leb (room_for bytes) (length out) ≡ false → record { answer = None; out = out } ≡ outcome_of_part done bytes last out
 unfolding outcome_of_part
 call-room done bytes last out e = rw (lt-ltb (length out) (room_for bytes) (leb-false (room_for bytes) (length out) e))
 
@@ -123,9 +123,9 @@ module _ (done : ℕ) (bytes : List ℕ) (last : Bool) (out : List ℕ) where
   list-exact n part left = (returned (dec_le (room_for bytes) (length out)), lists)
 
 -- for a caller: a text that was answered lies within the buffer
-abbrev listed-length : Listed → ℕ
-listed-length (Listed.Text p) = p.length
-listed-length Listed.Room = 0
+abbrev listed-length : Option ListedPart → ℕ
+listed-length (Some p) = p.length
+listed-length None = 0
 
 text-length : (a : PieceText) (out : List ℕ) → length a.text ≤ length (text_outcome a out).out
 text-length a out = omega (arith, length-append a.text (drop (length a.text) out))
@@ -137,8 +137,8 @@ outcome-within done bytes last out =
       | no h ↦ rw (sym (call-room done bytes last out (lt-leb (room_for bytes) (length out) (omega arith)))) (omega arith)
     ]
 
-pub text-within : {r : Listed} {after : List ℕ} (done : ℕ) (bytes : List ℕ) (last : Bool) (out : List ℕ) (p : ListedPart)
-    → record { answer = r; out = after } ≡ outcome_of_part done bytes last out → r ≡ Listed.Text p → p.length ≤ length after
+pub text-within : {r : Option ListedPart} {after : List ℕ} (done : ℕ) (bytes : List ℕ) (last : Bool) (out : List ℕ) (p : ListedPart)
+    → record { answer = r; out = after } ≡ outcome_of_part done bytes last out → r ≡ Some p → p.length ≤ length after
 text-within {r} {after} done bytes last out p e f =
     let l : p.length ≡ listed-length (outcome_of_part done bytes last out).answer = ap listed-length (sym f ∙ ap (λ (o : PartOutcome). o.answer) e) in
     let m : length after ≡ length (outcome_of_part done bytes last out).out = ap (λ (o : PartOutcome). length o.out) e in

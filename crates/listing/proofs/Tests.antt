@@ -32,10 +32,3 @@ over-already done words h = sym (lt-ltb limit (done + words) (omega arith))
 
 pub over-alike : (done words : ℕ) → done ≤ limit → ltb (limit - done) words ≡ ltb limit (done + words)
 over-alike done words h = leb-alike (suc (limit - done)) words (suc limit) (done + words) (λ k. omega arith) (λ k. omega arith)
-
--- the last arm of a match on a number: none of the numbers before it
-pub arm-past : (k n : ℕ) → k ≤ n → (n ≡ k → ⊥) → suc k ≤ n
-arm-past k n h f = omega arith
-
-pub arm-last : (k n : ℕ) → n < suc k → k ≤ n → n ≡ k
-arm-last k n h l = omega arith

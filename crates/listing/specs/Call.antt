@@ -1,9 +1,8 @@
 -- What the call that lists one piece answers, and what it leaves in the lent buffer.
-use Rattle.std.specs.Prelude.{ℕ, ◌+◌, ◌*◌, ◌/◌, ◌<◌, ◌≤◌, ◌≡◌, Bool, true, false, List, [], ◌∷◌, ◌++◌, ltb, length, get_or, take, drop}
-use Rattle.listing.specs.Listing.{PieceText, ascii, part_of}
+use Rattle.std.specs.Prelude.{ℕ, ◌+◌, ◌*◌, ◌/◌, ◌<◌, ◌≤◌, ◌≡◌, Option, Some, None, Bool, true, false, List, [], ◌∷◌, ◌++◌, ltb, length, take, drop}
+use Rattle.listing.specs.Listing.{PieceText, part_of}
 use Rattle.isa.specs.Number.{listed_number, listed_part}
 use Rattle.isa.specs.declared.types.ListedPart.{ListedPart}
-use Rattle.isa.specs.declared.types.Listed.{Listed}
 
 -- out with a text from the place `at` on
 unfoldable pub with_text : List ℕ → ℕ → List ℕ → List ℕ
@@ -14,31 +13,13 @@ pub record Wrote (before : List ℕ) (at : ℕ) (text : List ℕ) (next : ℕ) (
   pub past : next ≡ at + length text
   pub held : after ≡ with_text before at text
 
--- the names by number, as they stand between decoding and writing
-abbrev pub names : List (List ℕ)
-names =
-    ascii "CADD" ∷
-    ascii "SQCADD" ∷
-    ascii "CMLA" ∷
-    ascii "CMLA-I" ∷
-    ascii "SQRDCMLAH" ∷
-    ascii "SQRDCMLAH-I" ∷
-    ascii "SQRDMLAH" ∷
-    ascii "SQRDMLSH" ∷
-    ascii "SQDMULH" ∷
-    ascii "RESERVED" ∷
-    ascii "OUTSIDE" ∷ []
-
-abbrev pub name_at : ℕ → List ℕ
-name_at n = get_or names n []
-
 -- the room that a piece is asked for: 21 bytes for each line, and 32 for the last lines
 abbrev pub room_for : List ℕ → ℕ
 room_for bytes = 21 * (length bytes / 4) + 32
 
 -- an answer with what the buffer then holds
 pub record PartOutcome : Type 0 where
-  pub answer : Listed
+  pub answer : Option ListedPart
   pub out : List ℕ
 
 abbrev pub pick_part : Bool → PartOutcome → PartOutcome → PartOutcome
@@ -53,12 +34,12 @@ abbrev pub text_left : PieceText → List ℕ → List ℕ
 text_left a out = a.text ++ drop (length a.text) out
 
 abbrev pub text_outcome : PieceText → List ℕ → PartOutcome
-text_outcome a out = record { answer = Listed.Text (part_answered a); out = text_left a out }
+text_outcome a out = record { answer = Some (part_answered a); out = text_left a out }
 
 unfoldable pub outcome_of_part : ℕ → List ℕ → Bool → List ℕ → PartOutcome
 outcome_of_part done bytes last out =
     pick_part (ltb (length out) (room_for bytes))
-    (record { answer = Listed.Room; out = out })
+    (record { answer = None; out = out })
     (text_outcome (part_of done bytes last) out)
 
 -- when each number is given, with what is answered beside it and what the buffer then holds; that the definition answers exactly so is `list-exact` (proofs/Parts.antt)

@@ -3,12 +3,12 @@
 
 ghost use Rattle.std.specs.Prelude.{◌≡◌, ◌++◌, ◌+◌, ◌-◌, ◌*◌, ◌/◌, ◌<◌, ◌≤◌, leb, ltb, length, take};
 ghost use Rattle.listing.specs.Listing.{ascii, hex_digit, hex_of, operation_name, name_of, word_line, lines_of, decimal_of, count_line, tail_line, limit, over_of, last_of, more_of};
-ghost use Rattle.listing.specs.Call.{Wrote, name_at, text_outcome, outcome_of_part};
+ghost use Rattle.listing.specs.Call.{Wrote, text_outcome, outcome_of_part};
 ghost use Rattle.isa.specs.Bytes.{words_of};
 ghost use Rattle.isa.specs.Decode.{decode_of};
 
 use codec::word_at;
-use isa::types::{Decoded, Listed, ListedPart, Op};
+use isa::types::{Decoded, ListedPart, Op};
 
 // The most words that are listed.
 const LIMIT: usize = 1048576;
@@ -18,10 +18,9 @@ fn put_text(out: &mut [u8], at: usize, text: &[u8]) -> usize
     requires { at + length text.now ≤ length out.old }
     ensures { Wrote out.old at text.now result out.new }
 {
-    for i in 0..text.len() {
-        out[at + i] = text[i];
-    }
-    at + text.len()
+    let end = at + text.len();
+    out[at..end].copy_from_slice(text);
+    end
 }
 
 const DIGITS: [u8; 16] = *b"0123456789ABCDEF";
@@ -50,55 +49,29 @@ fn hex_of(word: u32) -> [u8; 9]
     ]
 }
 
-// The number of a name, between decoding and writing.
-fn operation_number(op: Op) -> usize
-    ensures { (result < 11) × (name_at result ≡ ascii (operation_name op)) }
+fn family_name(op: Op) -> &'static [u8]
+    ensures { result.now ≡ ascii (operation_name op) }
 {
     match op {
-        Op::Cadd(_) => 0,
-        Op::Sqcadd(_) => 1,
-        Op::Cmla(_) => 2,
-        Op::CmlaIndexed(_) => 3,
-        Op::Sqrdcmlah(_) => 4,
-        Op::SqrdcmlahIndexed(_) => 5,
-        Op::Sqrdmlah(_) => 6,
-        Op::Sqrdmlsh(_) => 7,
-        Op::Sqdmulh(_) => 8,
+        Op::Cadd(_) => b"CADD",
+        Op::Sqcadd(_) => b"SQCADD",
+        Op::Cmla(_) => b"CMLA",
+        Op::CmlaIndexed(_) => b"CMLA-I",
+        Op::Sqrdcmlah(_) => b"SQRDCMLAH",
+        Op::SqrdcmlahIndexed(_) => b"SQRDCMLAH-I",
+        Op::Sqrdmlah(_) => b"SQRDMLAH",
+        Op::Sqrdmlsh(_) => b"SQRDMLSH",
+        Op::Sqdmulh(_) => b"SQDMULH",
     }
 }
 
-fn name_number(decoded: Decoded) -> usize
-    ensures { (result < 11) × (name_at result ≡ name_of decoded) }
+fn name(decoded: Decoded) -> &'static [u8]
+    ensures { result.now ≡ name_of decoded }
 {
     match decoded {
-        Decoded::Operation(op) => operation_number(op),
-        Decoded::Reserved => 9,
-        Decoded::Outside => 10,
-    }
-}
-
-fn word_number(word: u32) -> usize
-    ensures { (result < 11) × (name_at result ≡ name_of (decode_of word)) }
-{
-    name_number(codec::decode(word))
-}
-
-fn put_name(out: &mut [u8], at: usize, n: usize) -> usize
-    requires { (n < 11) × (at + 11 ≤ length out.old) }
-    ensures { Wrote out.old at (name_at n) result out.new }
-{
-    match n {
-        0 => put_text(out, at, b"CADD"),
-        1 => put_text(out, at, b"SQCADD"),
-        2 => put_text(out, at, b"CMLA"),
-        3 => put_text(out, at, b"CMLA-I"),
-        4 => put_text(out, at, b"SQRDCMLAH"),
-        5 => put_text(out, at, b"SQRDCMLAH-I"),
-        6 => put_text(out, at, b"SQRDMLAH"),
-        7 => put_text(out, at, b"SQRDMLSH"),
-        8 => put_text(out, at, b"SQDMULH"),
-        9 => put_text(out, at, b"RESERVED"),
-        _ => put_text(out, at, b"OUTSIDE"),
+        Decoded::Operation(op) => family_name(op),
+        Decoded::Reserved => b"RESERVED",
+        Decoded::Outside => b"OUTSIDE",
     }
 }
 
@@ -107,8 +80,8 @@ fn put_line(out: &mut [u8], at: usize, word: u32) -> usize
     ensures { Wrote out.old at (word_line word) result out.new }
 {
     let hex = hex_of(word);
-    let name = put_text(out, at, &hex);
-    let end = put_name(out, name, word_number(word));
+    let named = put_text(out, at, &hex);
+    let end = put_text(out, named, name(codec::decode(word)));
     put_text(out, end, b"\n")
 }
 
@@ -190,7 +163,7 @@ fn words_left(done: usize) -> usize
 fn list_over(done: usize, bytes: &[u8], out: &mut [u8]) -> ListedPart
     requires limit_bound { limit < done + length bytes.now / 4 }
     requires bytes_in_bounds { 21 * (length bytes.now / 4) + 32 ≤ length out.old }
-    ensures { record { answer = Listed.Text result; out = out.new } ≡ text_outcome (over_of done bytes.now) out.old }
+    ensures { record { answer = Some result; out = out.new } ≡ text_outcome (over_of done bytes.now) out.old }
 {
     let left = words_left(done);
     let end = put_lines(out, bytes, left);
@@ -205,7 +178,7 @@ fn list_over(done: usize, bytes: &[u8], out: &mut [u8]) -> ListedPart
 fn list_last(done: usize, bytes: &[u8], out: &mut [u8]) -> ListedPart
     requires bytes_bound { done + length bytes.now / 4 ≤ limit }
     requires bytes_in_bounds { 21 * (length bytes.now / 4) + 32 ≤ length out.old }
-    ensures { record { answer = Listed.Text result; out = out.new } ≡ text_outcome (last_of done bytes.now) out.old }
+    ensures { record { answer = Some result; out = out.new } ≡ text_outcome (last_of done bytes.now) out.old }
 {
     let words = bytes.len() / 4;
     let tail = put_lines(out, bytes, words);
@@ -221,7 +194,7 @@ fn list_last(done: usize, bytes: &[u8], out: &mut [u8]) -> ListedPart
 fn list_more(done: usize, bytes: &[u8], out: &mut [u8]) -> ListedPart
     requires bytes_bound { done + length bytes.now / 4 ≤ limit }
     requires bytes_in_bounds { 21 * (length bytes.now / 4) + 32 ≤ length out.old }
-    ensures { record { answer = Listed.Text result; out = out.new } ≡ text_outcome (more_of done bytes.now) out.old }
+    ensures { record { answer = Some result; out = out.new } ≡ text_outcome (more_of done bytes.now) out.old }
 {
     let words = bytes.len() / 4;
     ListedPart {
@@ -232,18 +205,18 @@ fn list_more(done: usize, bytes: &[u8], out: &mut [u8]) -> ListedPart
 }
 
 // Lists one piece of the input, where `done` words were listed before. A piece that is not the last has a multiple of 4 bytes.
-pub fn list_part(done: usize, bytes: &[u8], last: bool, out: &mut [u8]) -> Listed
+pub fn list_part(done: usize, bytes: &[u8], last: bool, out: &mut [u8]) -> Option<ListedPart>
     ensures { record { answer = result; out = out.new } ≡ outcome_of_part done bytes.now last out.old }
 {
     let words = bytes.len() / 4;
     if !has_room(out.len(), words) {
-        return Listed::Room;
+        return None;
     }
     if is_over(done, words) {
-        return Listed::Text(list_over(done, bytes, out));
+        return Some(list_over(done, bytes, out));
     }
     if last {
-        return Listed::Text(list_last(done, bytes, out));
+        return Some(list_last(done, bytes, out));
     }
-    Listed::Text(list_more(done, bytes, out))
+    Some(list_more(done, bytes, out))
 }

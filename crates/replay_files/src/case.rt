@@ -1,91 +1,77 @@
-// The line on a case. It is written from what the contents say of the case, from the bytes of its body and from its verdict.
-use crate::contents::{Case, after_place, number_or_zero, words_place};
-use text::{put_byte, put_hex, put_number, put_text, put_word};
+// The line on a case.
+use crate::contents::{Case, number_or_zero};
+use std::fmt;
 use trace::types::Verdict;
 
-// Byte i of the file after, and 0 past the body's end. No file has more than 8,192 bytes.
-fn byte_after(body: &[u8], case: Case, i: usize) -> u8 {
-    let at = after_place(case) + 4 + i % 8192;
-    if at < body.len() { body[at] } else { 0 }
+// The case's number, what the contents say of it, the bytes of its body and its verdict.
+#[derive(Clone, Copy)]
+pub struct CaseLine<'a> {
+    pub number: u32,
+    pub case: Case,
+    pub body: &'a [u8],
+    pub verdict: Verdict,
 }
 
-// Word n of a case, and 0 past the body's end. No case has more than 4,096 words.
-fn word_of(body: &[u8], case: Case, n: usize) -> u32 {
-    number_or_zero(body, words_place(case) + (n % 4096 << 2))
-}
-
-// The register that byte i of the file lies in, and the byte's place there.
-fn put_place(out: &mut [u8], at: usize, i: usize, width: usize) -> usize {
-    if width == 0 {
-        return at;
+impl CaseLine<'_> {
+    // Where it stands, which at a length of 0 is nowhere.
+    fn put_place<W: fmt::Write>(&self, f: &mut fmt::Formatter<W>, i: usize) -> fmt::Result {
+        let width = self.case.bits as usize / 8;
+        if width == 0 {
+            return Ok(());
+        }
+        let register = i / width;
+        let byte = i % width;
+        write!(f, "\tz{register} byte {byte}")
     }
-    let named = put_number(out, at, b"\tz", (i / width) as u64);
-    put_number(out, named, b" byte ", (i % width) as u64)
-}
 
-fn put_file_differs(
-    out: &mut [u8],
-    at: usize,
-    case: Case,
-    body: &[u8],
-    i: usize,
-    expected: u8,
-) -> usize {
-    let counted = put_number(out, at, b"file differs\tbyte ", i as u64);
-    let placed = put_place(out, counted, i, case.bits as usize / 8);
-    let due = put_text(out, placed, b"\texpected ");
-    let told = put_hex(out, due, expected);
-    let found = put_text(out, told, b"\tfound ");
-    put_hex(out, found, byte_after(body, case, i))
-}
-
-// Both flags are 0 or 1, so the one that the run leaves is the other.
-fn put_flag_differs(out: &mut [u8], at: usize, case: Case, body: &[u8]) -> usize {
-    if number_or_zero(body, after_place(case)) == 0 {
-        return put_text(out, at, b"flag differs\texpected 1\tfound 0");
+    fn put_file_differs<W: fmt::Write>(
+        &self,
+        f: &mut fmt::Formatter<W>,
+        i: usize,
+        expected: u8,
+    ) -> fmt::Result {
+        write!(f, "file differs\tbyte {i}")?;
+        self.put_place(f, i)?;
+        // No file has more than 8,192 bytes.
+        let at = self.case.after_place() + 4 + i % 8192;
+        let found = self.body.get(at).copied().unwrap_or(0);
+        write!(f, "\texpected {expected:02X}\tfound {found:02X}")
     }
-    put_text(out, at, b"flag differs\texpected 0\tfound 1")
-}
 
-// The word that ended the run, with the name that a listing has for it.
-fn put_stopped(out: &mut [u8], at: usize, case: Case, body: &[u8], n: usize, name: &[u8]) -> usize {
-    let numbered = put_number(out, at, b"stopped\tword ", n as u64);
-    let parted = put_byte(out, numbered, b'\t');
-    let told = put_word(out, parted, word_of(body, case, n));
-    put_text(out, told, name)
-}
+    // The word that ended the run, with the name that a listing has for it. No case has more than 4,096 words.
+    fn put_stopped<W: fmt::Write>(
+        &self,
+        f: &mut fmt::Formatter<W>,
+        n: usize,
+        name: &str,
+    ) -> fmt::Result {
+        let at = self.case.words_place() + (n % 4096 << 2);
+        let word = number_or_zero(self.body, at);
+        write!(f, "stopped\tword {n}\t{word:08X} {name}")
+    }
 
-fn put_bad_flag(out: &mut [u8], at: usize, case: Case, body: &[u8]) -> usize {
-    let before = number_or_zero(body, 0);
-    let after = number_or_zero(body, after_place(case));
-    let told = put_number(out, at, b"bad flag\tbefore ", before as u64);
-    put_number(out, told, b"\tafter ", after as u64)
-}
-
-fn put_verdict(out: &mut [u8], at: usize, case: Case, body: &[u8], verdict: Verdict) -> usize {
-    match verdict {
-        Verdict::Agrees => put_text(out, at, b"agrees"),
-        Verdict::FileDiffers(i, expected) => put_file_differs(out, at, case, body, i, expected),
-        Verdict::FlagDiffers => put_flag_differs(out, at, case, body),
-        Verdict::Outside(n) => put_stopped(out, at, case, body, n, b" OUTSIDE"),
-        Verdict::Reserved(n) => put_stopped(out, at, case, body, n, b" RESERVED"),
-        Verdict::BadFlag => put_bad_flag(out, at, case, body),
+    fn put_verdict<W: fmt::Write>(&self, f: &mut fmt::Formatter<W>) -> fmt::Result {
+        let before = number_or_zero(self.body, 0);
+        let after = number_or_zero(self.body, self.case.after_place());
+        match self.verdict {
+            Verdict::Agrees => write!(f, "agrees"),
+            Verdict::FileDiffers(i, expected) => self.put_file_differs(f, i, expected),
+            // Both flags are 0 or 1, so the one that the run leaves is the other.
+            Verdict::FlagDiffers if after == 0 => write!(f, "flag differs\texpected 1\tfound 0"),
+            Verdict::FlagDiffers => write!(f, "flag differs\texpected 0\tfound 1"),
+            Verdict::Outside(n) => self.put_stopped(f, n, "OUTSIDE"),
+            Verdict::Reserved(n) => self.put_stopped(f, n, "RESERVED"),
+            Verdict::BadFlag => write!(f, "bad flag\tbefore {before}\tafter {after}"),
+        }
     }
 }
 
-// The line, from a place on: the case's number, its length and words, and the verdict.
-pub fn put_case(
-    out: &mut [u8],
-    at: usize,
-    k: u32,
-    case: Case,
-    body: &[u8],
-    verdict: Verdict,
-) -> usize {
-    let numbered = put_number(out, at, b"", k as u64);
-    let measured = put_number(out, numbered, b"\t", case.bits as u64);
-    let counted = put_number(out, measured, b"\t", case.words as u64);
-    let parted = put_byte(out, counted, b'\t');
-    let told = put_verdict(out, parted, case, body, verdict);
-    put_byte(out, told, b'\n')
+// The case's number, its length and words, and the verdict.
+impl fmt::Display for CaseLine<'_> {
+    fn fmt<W: fmt::Write>(&self, f: &mut fmt::Formatter<W>) -> fmt::Result {
+        let number = self.number;
+        let Case { bits, words, .. } = self.case;
+        write!(f, "{number}\t{bits}\t{words}\t")?;
+        self.put_verdict(f)
+    }
 }

@@ -4,50 +4,46 @@
 
 mod case;
 mod contents;
+mod fault;
 mod name;
 mod output;
 mod pieces;
-mod refusal;
 mod whole;
 
-use crate::name::{is_dash, put_name};
-use crate::output::{Streams, write_unread};
+use crate::name::Name;
+use crate::output::{Failure, Lines};
 use crate::pieces::tell_pieces;
 use crate::whole::tell_whole;
+use std::io::{Read, Stdin};
 
 // One byte more than a trace may have that is taken whole. It shows that the trace is longer.
 const TRACE: usize = 65537;
 
-// Room for the longest line: a name of 4,096 bytes and some columns.
-const LINE: usize = 4608;
-
 // A file: what is longer than 65,536 bytes is taken in pieces.
-fn tell_file(line: &mut [u8], start: usize, mut streams: Streams) {
+fn tell_file(mut stdin: Stdin, lines: &mut Lines) -> Result<(), Failure> {
     let mut trace = [0u8; TRACE];
-    let filled = input::fill(&mut streams.stdin, &mut trace);
-    if filled.failed {
-        write_unread(0, 0, streams);
-        return;
+    let length = input::fill(&mut stdin, &mut trace)?;
+    if length < TRACE {
+        tell_whole(&trace[..length], lines)
+    } else {
+        let read = &trace[..];
+        tell_pieces(read.chain(stdin), lines)
     }
-    let n = filled.length;
-    if n < TRACE {
-        tell_whole(&trace[0..n], line, start, streams);
-        return;
-    }
-    tell_pieces(&trace, line, start, streams);
 }
 
 fn main(rt: HostRuntime) {
-    let streams = Streams {
-        stdin: rt.stdin(),
-        stdout: rt.stdout(),
-        stderr: rt.stderr(),
+    let name = Name::read();
+    let mut lines = Lines::new(name.column(), rt.stdout());
+    let told = if name.is_dash() {
+        tell_pieces(rt.stdin(), &mut lines)
+    } else {
+        tell_file(rt.stdin(), &mut lines)
     };
-    let mut line = [0u8; LINE];
-    let start = put_name(&mut line);
-    if is_dash(&line, start) {
-        tell_pieces(b"", &mut line, start, streams);
-        return;
+    if let Err(failure) = told {
+        let _ = eprintln!(rt; "kob replay: {failure}");
     }
-    tell_file(&mut line, start, streams);
+    // A line that is lost may have been the last: then there is nothing to count.
+    if told != Err(Failure::Unwritten) {
+        lines.write_counts();
+    }
 }

@@ -2,8 +2,8 @@
 use Rattle.std.proofs.Common.{◌≡◌, ◌≤◌, ◌-◌, length}
 use Rattle.input.proofs.fill.Given as goal
 
-abbrev pub invariant-loop-done : goal.invariant-loop-done
-invariant-loop-done g l = (l.done ≤ length l.buf) × (length l.buf ≡ length l.initial.buf)
+abbrev pub invariant-loop-length : goal.invariant-loop-length
+invariant-loop-length g l = (l.length ≤ length l.buf) × (length l.buf ≡ length l.initial.buf)
 
-abbrev pub decreases-loop-done : goal.decreases-loop-done
-decreases-loop-done g l = length l.buf - l.done
+abbrev pub decreases-loop-length : goal.decreases-loop-length
+decreases-loop-length g l = length l.buf - l.length

@@ -1,9 +1,0 @@
--- The invariant: the place lies within the text.
-use Rattle.std.proofs.Common.{◌≤◌, length}
-use Rattle.assembly.proofs.place.trim.Given as goal
-
-abbrev pub invariant-loop-i : goal.invariant-loop-i
-invariant-loop-i l = l.i ≤ length l.s
-
-abbrev pub decreases-loop-i : goal.decreases-loop-i
-decreases-loop-i l = l.i
