@@ -105,8 +105,8 @@ def check(sources):
 # ---- trials: a tree with a second multiplication is refused, one with what only looks like it passes
 
 SECOND = {
-    "in the place of a product": ("crates/kernel16/src/lane.rt", "product(a, b), minus) >> 15", "(a as i32) * (b as i32), minus) >> 15"),
-    "of halves, with no spaces": ("crates/kernel64/src/product.rt", "half_product(u1, v1)", "u1*v1"),
+    "in the place of a product": ("crates/kernel/src/lane16.rt", "product(a, b), minus) >> 15", "(a as i32) * (b as i32), minus) >> 15"),
+    "of halves, with no spaces": ("crates/kernel/src/product64.rt", "half_product(u1, v1)", "u1*v1"),
     "of a place": ("crates/capi_stream/src/marks.rt", "i << 2", "i * 4"),
     "beside the one": (PLACE[0], "(a as u32) * (b as u32)", "(a as u32) * (b as u32) * 1"),
     "wider than the one": (PLACE[0], "(a: u16, b: u16) -> u32", "(a: u32, b: u32) -> u32"),
