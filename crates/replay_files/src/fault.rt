@@ -23,6 +23,8 @@ pub enum Fault {
     Body(u32, usize, usize),
 }
 
+const LENGTHS: &str = "128, 256, 512, 1024 and 2048 are allowed";
+
 impl fmt::Display for Fault {
     fn fmt<W: fmt::Write>(&self, f: &mut fmt::Formatter<W>) -> fmt::Result {
         match *self {
@@ -37,12 +39,7 @@ impl fmt::Display for Fault {
                     "cases {cases}: the contents take {takes} bytes, the trace has {size}"
                 )
             }
-            Fault::Length(k, bits) => {
-                write!(
-                    f,
-                    "case {k}: length {bits}: 128, 256, 512, 1024 and 2048 are allowed"
-                )
-            }
+            Fault::Length(k, bits) => write!(f, "case {k}: length {bits}: {LENGTHS}"),
             Fault::Words(k, words) => write!(f, "case {k}: words {words}: 0 to 4096 are allowed"),
             Fault::Start(0, start, due) => {
                 write!(f, "case 0: start {start}: the contents end at {due}")

@@ -9,7 +9,7 @@ use lib.ListN.{length, take, drop, replicate, length-replicate, replicate-append
 use lib.Seq.{take_all, take_at, drop_at}
 use types.Run.{OneOf, miss}
 use denote.Enum.Declared.{tag_of}
-use Rattle.trace.specs.Stream.{due_of, Status, then, start, over}
+use Rattle.trace.specs.Stream.{due_of, Status, then, start}
 use Rattle.trace.specs.Feed.{Fed, status_after, goes_on, feed_from, feed_of}
 use Rattle.trace.specs.declared.types.Told.{Told}
 use Rattle.trace.specs.contracts.types.Told.{the_type}

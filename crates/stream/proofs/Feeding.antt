@@ -62,13 +62,13 @@ module _ (held : List ℕ) (m : Marks) (bytes : List ℕ) (size : length held �
     pub step-bodies : 1 ≤ r.taken → r.taken ≤ length bytes → Takes held m bytes r held'
     step-bodies l n = record { some = l; most = n; steps = bodies_kept }
 
-  module _ (e f : End) (p : m.phase ≡ Phase.Ended e) (refused : r ≡ refused_on f) where
+  module _ (e : End) (p : m.phase ≡ Phase.Ended e) (refused : r ≡ refused_on e) where
     ended-kept : (h : List ℕ) → KeptHeld held m (live h) → Steps h (take r.taken bytes) r (take 8192 held) (drop 8192 held)
     ended-kept _ (listing h v kept) = contents-ended (listing-phase kept) p
     ended-kept _ (within h k v kept) = bodies-ended kept.phase p
 
     pub step-ended : Takes held m bytes r held
-    step-ended = let one = one-taken bytes f r some refused in record { some = one.0; most = one.1; steps = ended-kept }
+    step-ended = let one = one-taken bytes e r some refused in record { some = one.0; most = one.1; steps = ended-kept }
 
 -- ---- the bytes taken so far
 

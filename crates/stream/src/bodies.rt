@@ -65,7 +65,7 @@ pub fn bodies_bytes(held: &mut [u8], m: Marks, bytes: &[u8]) -> Stepped
 {
     let case = m.case;
     if m.cases <= case {
-        return Stepped::refused(TraceRefusal::BadTotal);
+        return Stepped::refused(Err(TraceRefusal::BadTotal));
     }
     if case < 1024 {
         let row = IMAGE + (case << 3) + (case << 2);
@@ -76,5 +76,5 @@ pub fn bodies_bytes(held: &mut [u8], m: Marks, bytes: &[u8]) -> Stepped
         }
     }
     // No stream leaves this.
-    Stepped::refused(TraceRefusal::BadContents)
+    Stepped::refused(Err(TraceRefusal::BadContents))
 }

@@ -62,7 +62,7 @@ fn count_byte(at: usize, held: [u8; 4]) -> Stepped
     if (1 <= n) & (n <= 1024) {
         return on(n, entry_place(n), 4, [0u8; 4]);
     }
-    Stepped::refused(TraceRefusal::BadContents)
+    Stepped::refused(Err(TraceRefusal::BadContents))
 }
 
 // The start of a body, which is whole with byte `at` of the contents. No stream leaves such a count or such a sum: the test keeps sums in range.
@@ -71,12 +71,12 @@ fn start_number(contents: &[u8], cases: usize, due: usize, at: usize, start: usi
     ensures { result ≡ start_on contents.now cases due at start }
 {
     if (1024 < cases) | (LAST_START < due) {
-        return Stepped::refused(TraceRefusal::BadContents);
+        return Stepped::refused(Err(TraceRefusal::BadContents));
     }
     let l = wide(word_at(contents, at - 15));
     let w = wide(word_at(contents, at - 11));
     let Some(end) = body_end(l, w, start, due) else {
-        return Stepped::refused(TraceRefusal::BadContents);
+        return Stepped::refused(Err(TraceRefusal::BadContents));
     };
     if at + 1 == entry_place(cases) {
         return opened(cases, end);
@@ -97,7 +97,7 @@ fn entry_number(contents: &[u8], cases: usize, due: usize, at: usize) -> Stepped
     if (is_legal(n) & (column == 3)) | ((n <= 4096) & (column == 7)) {
         return on(cases, due, at + 1, [0u8; 4]);
     }
-    Stepped::refused(TraceRefusal::BadContents)
+    Stepped::refused(Err(TraceRefusal::BadContents))
 }
 
 // A byte of the contents.
@@ -112,7 +112,7 @@ pub fn contents_byte(contents: &mut [u8], m: Marks, b: u8) -> Stepped
     }
     if LONGEST_CONTENTS <= at {
         // No stream leaves this.
-        return Stepped::refused(TraceRefusal::BadContents);
+        return Stepped::refused(Err(TraceRefusal::BadContents));
     }
     contents[at - 4] = b;
     if at % 4 == 3 {

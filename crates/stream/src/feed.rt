@@ -16,7 +16,7 @@ fn step(held: &mut [u8], m: Marks, bytes: &[u8]) -> Stepped
         Phase::Contents => contents_byte(&mut held[IMAGE..], m, bytes[0]),
         Phase::Bodies => bodies_bytes(held, m, bytes),
         // Not met: `feed` has asked, and a refusal ends the loop of `take`.
-        Phase::Ended(_) => Stepped::refused(TraceRefusal::BadContents),
+        Phase::Ended(end) => Stepped::refused(end),
     }
 }
 

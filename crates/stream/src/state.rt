@@ -118,13 +118,13 @@ impl Marks {
 
 impl Stepped {
     // One byte, and the stream is over.
-    pub fn refused(refusal: TraceRefusal) -> Self
-        ensures { result ≡ record { taken = 1; told = Told.Over (Err refusal); marks = ended_marks (Err refusal) } }
+    pub fn refused(end: Result<(), TraceRefusal>) -> Self
+        ensures { result ≡ record { taken = 1; told = Told.Over end; marks = ended_marks end } }
     {
         Stepped {
             taken: 1,
-            told: Told::Over(Err(refusal)),
-            marks: Marks::ended(Err(refusal)),
+            told: Told::Over(end),
+            marks: Marks::ended(end),
         }
     }
 }

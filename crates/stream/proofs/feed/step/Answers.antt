@@ -1,7 +1,5 @@
 -- The contents, the bodies, or a stream that is over.
 use Rattle.stream.proofs.Feeding.{step-contents, step-bodies, step-ended}
-use Rattle.std.specs.Prelude.{Err}
-use Rattle.trace.specs.declared.types.TraceRefusal.{TraceRefusal}
 use Rattle.stream.proofs.feed.step.Goals as goal
 
 pub returns-in-Contents : goal.returns-in-Contents
@@ -14,4 +12,4 @@ returns-in-Bodies c = let r = c.bodies_bytes.ensures in
     step-bodies c.args.held.now c.args.m c.args.bytes.now c.requires.0 c.requires.1 _ _ c.in-Bodies.is r.2 r.0 r.1
 
 pub returns-in-Ended : goal.returns-in-Ended
-returns-in-Ended c = step-ended c.args.held.now c.args.m c.args.bytes.now c.requires.0 c.requires.1 _ _ (Err TraceRefusal.BadContents) c.in-Ended.is c.refused.ensures
+returns-in-Ended c = step-ended c.args.held.now c.args.m c.args.bytes.now c.requires.0 c.requires.1 _ _ c.in-Ended.is c.refused.ensures

@@ -1,7 +1,6 @@
 use borrow.Enum.Refused.{opened}
 use mathlib.Core.Path.{sym, ◌∙◌}
 use native.Mathlib.Omega.{arith}
-use Prim.Native.Nat.{◌-◌}
 use lib.ListN.{length-take, length-drop}
 use Rattle.stream.proofs.Feeding.{taking-starts, taking-within, taking-on, taking-stops, taking-ends}
 use Rattle.stream.proofs.feed.take.Goals as goal

@@ -2,7 +2,7 @@
 use mathlib.Core.Path.{◌≡◌, sym, ◌∙◌}
 use borrow.Author.Rules.{rules}
 use lib.ListN.{length}
-use Rattle.stream.proofs.Called.{zeros, zeros-size, fronted-room, fronted-part, joined-size, joined_is, contents-back, feed-feeds}
+use Rattle.stream.proofs.Called.{zeros, zeros-size, fronted-part, joined-size, joined_is, contents-back, feed-feeds}
 use Rattle.stream.proofs.Rows.{image-part}
 use Rattle.stream.proofs.state.State.feed.Goals as goal
 
