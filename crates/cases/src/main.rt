@@ -54,9 +54,7 @@ fn fill(file: &mut [u8], seed: u32) {
     let mut kind = 0;
     for (i, byte) in file.iter_mut().enumerate() {
         x = following(x);
-        if i % width == 0 {
-            kind = (x >> 32) % 8;
-        }
+        kind = if i % width == 0 { (x >> 32) % 8 } else { kind };
         *byte = byte_of(kind, i % width == width - 1, x);
     }
 }

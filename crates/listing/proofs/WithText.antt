@@ -1,12 +1,12 @@
 -- A buffer with a text in it: with no text, with one text after another, and what a function that puts one leaves.
-use mathlib.Core.Path.{◌≡◌, sym, ap, ◌∙◌}
+use mathlib.Core.Path.{◌≡◌, refl, sym, ap, ◌∙◌}
 use mathlib.Core.List.{List, [], ◌++◌, append_assoc, append-nil}
-use Prim.Native.Nat.{ℕ, ◌+◌, ◌≤◌}
+use Prim.Native.Nat.{ℕ, ◌+◌, ◌≤◌, ◌<◌}
 use native.Mathlib.Nat.{add-zero, add_assoc, zero-add}
+use native.Mathlib.Numerals.{add-one}
 use native.Mathlib.Omega.{arith}
-use borrow.Rule.Slice.PartMut.{put_mid}
-use lib.ListN.{length, take, drop, length-append, length-drop, take-append-drop}
-use lib.Seq.{length-take-le, take_at, drop-append-add, drop-drop}
+use lib.ListN.{length, get_or, set, take, drop, length-append, length-drop, take-append-drop}
+use lib.Seq.{length-take-le, take_at, drop-append-add, drop-drop, paste, paste-zero, paste-suc, length-paste, take-length}
 use Rattle.listing.specs.Call.{with_text, Wrote}
 
 pub with_none : (out : List ℕ) (at : ℕ) → out ≡ with_text out at []
@@ -62,10 +62,32 @@ wrote_then {out} {at} {a} {n} {out₁} {b} {m} {out₂} w v h =
 pub wrote-length : {out : List ℕ} {at : ℕ} {a : List ℕ} {n : ℕ} {out₁ : List ℕ} → Wrote out at a n out₁ → at + length a ≤ length out → length out₁ ≡ length out
 wrote-length {out} {at} {a} w h = ap length w.held ∙ length-with out at a h
 
--- a text that is stored over a part of the buffer
-pub pasted : (out text part : List ℕ) (at n : ℕ) → n ≡ length text → part ≡ text → put_mid at n out part ≡ with_text out at text
+-- the loop that copies a text: so many of its bytes are in place
+pub record Copying (out₀ : List ℕ) (at : ℕ) (text out : List ℕ) (i : ℕ) : Type 0 where
+  pub within : i ≤ length text
+  pub sized : length out ≡ length out₀
+  pub held : out ≡ paste out₀ at text i
+
+pub copying-starts : (out : List ℕ) (at : ℕ) (text : List ℕ) → Copying out at text out 0
+copying-starts out at text = record { within = omega arith; sized = refl; held = paste-zero out at text }
+
+pub copying-on : {out₀ : List ℕ} {at : ℕ} {text out : List ℕ} {i : ℕ} → Copying out₀ at text out i → i < length text → at + length text ≤ length out₀
+    → Copying out₀ at text (set out (at + i) (get_or text i 0)) (i + 1)
+copying-on {out₀} {at} {text} {out} {i} p h r =
+    let e : set out (at + i) (get_or text i 0) ≡ paste out₀ at text (i + 1) =
+    ap (λ (s : List ℕ). set s (at + i) (get_or text i 0)) p.held
+    ∙ paste-suc out₀ at text i 0 (omega arith) h
+    ∙ ap (paste out₀ at text) (sym (add-one i)) in
+    record { within = omega arith; sized = ap length e ∙ length-paste out₀ at text (i + 1) (omega arith) (omega arith); held = e }
+
+pub copying-ends : {out₀ : List ℕ} {at : ℕ} {text out : List ℕ} {i : ℕ} → Copying out₀ at text out i → length text ≤ i → Wrote out₀ at text (at + length text) out
 unfolding with_text
-pasted out text part at n e p =
-    rw p
-    (sym (append_assoc (take at out) text (drop n (drop at out)))
-    ∙ ap (λ (s : List ℕ). take at out ++ text ++ s) (ap (λ (k : ℕ). drop k (drop at out)) e ∙ drop-drop (length text) at out))
+copying-ends {out₀} {at} {text} {out} {i} p h =
+    let e : i ≡ length text = omega arith in
+    record {
+      past = refl;
+      held =
+          p.held
+          ∙ ap (paste out₀ at text) e
+          ∙ ap (λ (s : List ℕ). take at out₀ ++ s ++ drop (at + length text) out₀) (take-length text);
+    }

@@ -13,14 +13,16 @@ use isa::types::{Decoded, ListedPart, Op};
 // The most words that are listed.
 const LIMIT: usize = 1048576;
 
-// Puts a text at a place and answers the place past it. Every byte of a listing is stored here.
+// Puts a text at a place and answers the place past it. Every byte of a listing is stored here. By a loop: `copy_from_slice` asks the C library for
+// memmove here, and the archive needs memcpy and memset alone.
 fn put_text(out: &mut [u8], at: usize, text: &[u8]) -> usize
     requires { at + length text.now ≤ length out.old }
     ensures { Wrote out.old at text.now result out.new }
 {
-    let end = at + text.len();
-    out[at..end].copy_from_slice(text);
-    end
+    for i in 0..text.len() {
+        out[at + i] = text[i];
+    }
+    at + text.len()
 }
 
 const DIGITS: [u8; 16] = *b"0123456789ABCDEF";

@@ -14,6 +14,16 @@ use trace::types::Verdict;
 // The longest file: 32 registers of 2,048 bits.
 const LONGEST_FILE: usize = 8192;
 
+// Copies a file, or a part of one. By a loop: of a part `copy_from_slice` asks the C library for memmove, and the archive needs memcpy and memset alone.
+pub fn load(image: &mut [u8], file: &[u8])
+    requires { length image.old ≡ length file.now }
+    ensures { image.new ≡ file.now }
+{
+    for i in 0..file.len() {
+        image[i] = file[i];
+    }
+}
+
 // What is said where the file agrees.
 pub fn flags(left: bool, after: bool) -> Verdict
     ensures { result ≡ defined_flags left after }

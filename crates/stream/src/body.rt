@@ -7,6 +7,7 @@ use crate::bytes::with_byte;
 use crate::case::{compare, execute, flag_after, flag_before};
 use crate::state::{Course, Standing};
 use codec::word_at;
+use replay::body::load;
 
 // How many bytes were taken, and how far the body has come.
 #[derive(Clone, Copy)]
@@ -79,7 +80,7 @@ fn file_bytes(image: &mut [u8], l: usize, c: Course, bytes: &[u8]) -> Course
 {
     let at = c.at;
     let to = at + bytes.len();
-    image[at - 4..to - 4].copy_from_slice(bytes);
+    load(&mut image[at - 4..to - 4], bytes);
     Course { at: to, ..c }
 }
 

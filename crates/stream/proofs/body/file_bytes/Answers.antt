@@ -11,4 +11,4 @@ size at n l = omega arith
 
 pub returns : goal.returns
 returns c W = let a = c.args in
-    rw c.copy_from_slice.ensures.after (file-bytes a.l W a.image.now a.c a.bytes.now c.requires.l_bound.1 c.requires.l_bound.2 c.requires.l_bound.0 _ _ refl (size a.c.at (length a.bytes.now) c.requires.l_bound.1))
+    rw c.load.ensures (file-bytes a.l W a.image.now a.c a.bytes.now c.requires.l_bound.1 c.requires.l_bound.2 c.requires.l_bound.0 _ _ refl (size a.c.at (length a.bytes.now) c.requires.l_bound.1))
