@@ -3,7 +3,7 @@
 
 mod text;
 
-ghost use Rattle.std.specs.Prelude.{◌≡◌, ◌++◌, map, ◌+◌, ◌<◌, ◌≤◌, length};
+ghost use Rattle.std.specs.Prelude.{◌≡◌, ◌++◌, map, ◌+◌, ◌<◌, ◌≤◌, length, take};
 ghost use Rattle.isa.specs.Encode.{by_size};
 ghost use Rattle.grammar.specs.Template.{fill};
 ghost use Rattle.grammar.specs.Grammar.{variables, item_of, pattern_count, letter_count, line_max, form_bits, by_form, add_values, mul_values, indexed_values, element_values, pattern_of, values_of, line_of};
@@ -11,12 +11,12 @@ ghost use Rattle.grammar.specs.Line.{Writable};
 ghost use Rattle.grammar.specs.Write.{fitting, line_outcome, write_of};
 ghost use Rattle.line_writer.specs.Fill.{values_from, Low, Few, indexed_by, element_by, group_with, group_by, item_text};
 
-use crate::text::Text;
 use codec::{add_rotation_bits, by_group, by_size, encode, rotation_bits, size_bits};
 use grammar::types::LineRefusal;
 use isa::types::{Add, ByElement, Form, Group, Mul, MulGroup, MulIndexed, Op, Size};
 use letters::templates::template_at;
 use letters::texts::{LETTERS, slot_of, text_of};
+pub use text::Text;
 
 // ---- the pattern and the values of an operation: the makers in reverse
 
@@ -185,8 +185,8 @@ fn values_of(op: Op) -> [u8; LETTERS]
 // ---- a template with values for its letters
 
 fn put_item(c: u8, values: &[u8; LETTERS], line: &mut Text)
-    requires { Low (values_from values.now) × (length line.old + length (item_text (item_of c) (values_from values.now)) ≤ line_max) }
-    ensures { line.new ≡ line.old ++ item_text (item_of c) (values_from values.now) }
+    requires { Low (values_from values.now) × (length (take line.old.size line.old.bytes) + length (item_text (item_of c) (values_from values.now)) ≤ line_max) }
+    ensures { take line.new.size line.new.bytes ≡ take line.old.size line.old.bytes ++ item_text (item_of c) (values_from values.now) }
 {
     match c {
         b'a'..=b'z' => {
@@ -199,7 +199,7 @@ fn put_item(c: u8, values: &[u8; LETTERS], line: &mut Text)
 
 fn fill_template(template: &[u8], values: &[u8; LETTERS]) -> Text
     requires { Low (values_from values.now) × (length (fill variables (map item_of template.now) (values_from values.now)) ≤ line_max) }
-    ensures { result ≡ fill variables (map item_of template.now) (values_from values.now) }
+    ensures { take result.size result.bytes ≡ fill variables (map item_of template.now) (values_from values.now) }
 {
     let mut line = Text::new();
     for &c in template {
@@ -210,7 +210,7 @@ fn fill_template(template: &[u8], values: &[u8; LETTERS]) -> Text
 
 fn line_of(op: Op) -> Text
     requires { Writable op }
-    ensures { result ≡ line_of op }
+    ensures { take result.size result.bytes ≡ line_of op }
 {
     let values = values_of(op);
     let t = template_at(pattern_of(op) as usize);

@@ -1,17 +1,19 @@
 -- Up to three bytes behind those before.
 use native.Mathlib.Omega.{arith}
-use mathlib.Core.Path.{ap, ◌∙◌}
-use mathlib.Core.List.{List, ◌++◌}
-use Prim.Native.Nat.{ℕ}
+use mathlib.Core.Path.{◌≡◌}
 use lib.ListN.{length}
 use lib.Seq.{length-take-le}
-use Rattle.grammar.specs.Packed.{text_bytes}
+use Rattle.std.proofs.Common.{rules}
 use Rattle.grammar.proofs.Packed.{text-length}
 use Rattle.line_writer.proofs.Filling.{pushes-text}
 use Rattle.line_writer.proofs.text.Text.push_text.Goals as goal
 
 pub invariant_of-self : goal.invariant_of-self
-invariant_of-self c = omega (arith, c.self.invariant, c.self.told, ap length c.self.view_is, length-take-le c.self.inside.size c.self.inside.bytes (omega (arith, c.self.invariant, c.self.told)), text-length c.args.packed, c.requires.1)
+invariant_of-self c = let line = c.args.self.now in
+    let sized : length line.bytes ≡ 50 = search rules in
+    record { within = omega (arith, length-take-le line.size line.bytes (omega (arith, line.within, sized)), text-length c.args.packed, c.requires.1) }
 
 pub returns : goal.returns
-returns c = pushes-text c.self.inside.bytes c.self.inside.size c.args.packed (omega (arith, c.self.invariant, c.self.told)) c.requires.0 ∙ ap (λ (l : List ℕ). l ++ text_bytes c.args.packed) c.self.view_is
+returns c = let line = c.args.self.now in
+    let sized : length line.bytes ≡ 50 = search rules in
+    pushes-text line.bytes line.size c.args.packed (omega (arith, line.within, sized)) c.requires.0
