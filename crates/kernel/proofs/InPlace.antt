@@ -1,6 +1,6 @@
 -- A loop that works a list of lanes in place, from the front: after n stores the first n values are those of f, and the other lanes are as at the start.
 -- Assumes nothing.
-use mathlib.Core.Path.{◌≡◌, refl, ◌∙◌}
+use mathlib.Core.Path.{◌≡◌, refl, ap, ◌∙◌}
 use mathlib.Core.List.{List}
 use Prim.Native.Nat.{ℕ, ◌+◌, ◌≤◌, ◌<◌}
 use native.Mathlib.Omega.{arith}
@@ -18,6 +18,10 @@ pub record InPlace {A : Type 0} (value : A → ℤ) (size n : ℕ) (f : ℕ → 
 module _ {A : Type 0} (value : A → ℤ) {size : ℕ} {f : ℕ → ℤ} {start : List A} where
   pub in-place-none : length start ≡ size → InPlace value size 0 f start start
   in-place-none e = record { made = begin value start e; rest = (λ k d h. refl) }
+
+  -- a lane not worked yet, read at any place that is the same number
+  pub rest-at : {n : ℕ} {r : List A} → InPlace value size n f start r → (j k : ℕ) (d : A) → j ≡ k → n ≤ k → value (get_or r j d) ≡ value (get_or start k d)
+  rest-at {n} {r} p j k d e h = ap (λ i. value (get_or r i d)) e ∙ ap value (p.rest k d h)
 
   pub in-place-more : {n : ℕ} {r : List A} → InPlace value size n f start r → n < size → (v : A) → value v ≡ f n → InPlace value size (n + 1) f start (set r n v)
   in-place-more {n} {r} p l v e =

@@ -3,7 +3,7 @@
 use mathlib.Core.Path.{◌≡◌, refl, sym, ap, ◌∙◌, subst}
 use mathlib.Core.Bool.{Bool}
 use mathlib.Core.List.{List, [], ◌∷◌}
-use Prim.Native.Nat.{ℕ, zero, suc, ◌+◌, ◌<◌}
+use Prim.Native.Nat.{ℕ, zero, suc, ◌+◌, ◌≤◌, ◌<◌}
 use native.Mathlib.Omega.{arith}
 use lib.ListN.{get_or, set, length, replicate}
 use lib.IntN.{ℤ, pos, ◌*ℤ◌}
@@ -21,6 +21,13 @@ some-pairs B = omega arith
 some-pairs H = omega arith
 some-pairs S = omega arith
 some-pairs D = omega arith
+
+pub few-pairs : (z : Size) → pairs z ≤ 8
+unfolding pairs
+few-pairs B = omega arith
+few-pairs H = omega arith
+few-pairs S = omega arith
+few-pairs D = omega arith
 
 module _ {A : Type 0} (value : A → ℤ) where
   -- the value at a place that the list has

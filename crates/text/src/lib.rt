@@ -35,7 +35,7 @@ impl<const N: usize> Text<N> {
     pub fn len(&self) -> usize
         ensures { result ≡ length self.now }
     {
-        self.size
+        self.as_bytes().len()
     }
 
     pub fn as_bytes(&self) -> &[u8]

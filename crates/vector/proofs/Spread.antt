@@ -1,4 +1,4 @@
--- The segments at one place of each register of a group. `worked-none`, `worked_more`: worked one register after the other. `filed-none`, `filed_more`: stored so.
+-- The segments at one place of each register of a group. `worked-none`, `worked_more`: worked one register after the other. `filed-none`, `filed_more`, `filed-at`: stored so.
 -- `group_stored`: worked and then stored, they are what a group's loop wants. `spread-in`, `spread-next`: where one lies, and the next. Assumes nothing.
 use mathlib.Core.Path.{◌≡◌, refl, sym, ap, subst, ◌∙◌}
 use Prim.Native.Nat.{ℕ, ◌+◌, ◌-◌, ◌*◌, ◌/◌, ◌%◌, ◌<◌, ◌≤◌}
@@ -82,6 +82,11 @@ module _ (at w : ℕ) where
           (λ u. absurd (b r (x - place) (omega arith) (omega (arith, ltb-true x (place + 16) u)) (omega (arith, ltb-false x place e, here))))
           (λ u. stored.high x (ltb-false x (place + 16) u) ∙ so_far.beside x (λ s i h l. b s i (omega arith) l)));
     }
+
+    -- the same of a segment at any number that is r
+    pub filed-at : 16 ≤ w → (r k place : ℕ) (mid after : List ℕ) → k ≡ r → place ≡ at + r * w → Stored mid place 16 (get_or new k []) after → Filed file at w r new mid →
+        Filed file at w (r + 1) new after
+    filed-at wide r k place mid after same here stored = filed_more wide r place mid after here (subst (λ n. Stored mid place 16 (get_or new n []) after) same stored)
 
     -- the segment at m has been read from the file as z
     pub group_stored : {rule : Bytes → Bytes → Bytes} → BySegment rule → (count m : ℕ) (z after : List ℕ) → Loaded file m 16 z → Worked rule file at w count z new →

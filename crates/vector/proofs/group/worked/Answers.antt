@@ -18,6 +18,6 @@ loop-r-preserved g c =
     record {
       here = next a.at a.w i.r i.place i.invariant.here;
       sized = length-set i.new i.r c.sqdmulh.result ∙ i.invariant.sized;
-      so_far = worked_more a.at a.w (lane_wise g.L.Lane.size high) a.file.now a.z (lane-wise g.L.Lane.size high) i.r i.place i.new c.read16.result c.sqdmulh.result
-          inside i.invariant.here c.read16.ensures c.sqdmulh.ensures.at i.invariant.so_far;
+      so_far = worked_more a.at a.w (lane_wise g.L.Lane.size high) a.file.now a.z (lane-wise g.L.Lane.size high) i.r _ i.new c.read16.result c.sqdmulh.result
+          inside (omega (arith, i.invariant.here)) c.read16.ensures c.sqdmulh.ensures.at i.invariant.so_far;
     }
