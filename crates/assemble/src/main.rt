@@ -4,6 +4,7 @@
 
 ghost use Rattle.std.specs.Prelude.{◌≤◌, length};
 
+use assembly::Fault;
 use std::fmt;
 use std::fmt::Write;
 use std::io::{Stdin, Stdout};
@@ -33,6 +34,28 @@ fn message<D: fmt::Display + Drop>(what: D) -> Message {
 
 // ---- lines
 
+// What is wrong with a line. `take_line` makes no message of it: its locals are cleared for each line, and a message is long.
+#[derive(Clone, Copy)]
+enum Wrong<'a> {
+    TooLong,
+    Instruction(Fault<'a>),
+}
+
+impl fmt::Display for Wrong<'_> {
+    fn fmt<W: fmt::Write>(&self, f: &mut fmt::Formatter<W>) -> fmt::Result {
+        match self {
+            Wrong::TooLong => write!(f, ": longer than {MOST_LINE} bytes"),
+            Wrong::Instruction(fault) => write!(f, "{fault}"),
+        }
+    }
+}
+
+impl<'a> From<Fault<'a>> for Wrong<'a> {
+    fn from(fault: Fault<'a>) -> Self {
+        Wrong::Instruction(fault)
+    }
+}
+
 fn is_too_long(line: &[u8]) -> bool {
     line.strip_suffix(b"\n").unwrap_or(line).len() > MOST_LINE
 }
@@ -45,14 +68,11 @@ fn put_code(out: &mut Text<PIECE>, word: u32, hex: bool) {
     }
 }
 
-fn take_line(line: &[u8], number: u64, hex: bool, out: &mut Text<PIECE>) -> Result<(), Message> {
+fn take_line<'a>(line: &'a [u8], hex: bool, out: &mut Text<PIECE>) -> Result<(), Wrong<'a>> {
     if is_too_long(line) {
-        return Err(message(format_args!("line {number}: longer than {MOST_LINE} bytes")));
+        return Err(Wrong::TooLong);
     }
-    let assembled = assembly::assemble(line, 0).map_err(|fault| message(format_args!(
-        "line {number}{fault}"
-    )))?;
-    if let Some(word) = assembled {
+    if let Some(word) = assembly::assemble(line, 0)? {
         put_code(out, word, hex);
     }
     Ok(())
@@ -98,7 +118,9 @@ impl Assembler {
         out.truncate(0);
         for line in self.buf[..end].split_inclusive(|b| *b == b'\n') {
             self.lines = self.lines.wrapping_add(1);
-            take_line(line, self.lines, self.hex, out)?;
+            if let Err(wrong) = take_line(line, self.hex, out) {
+                return Err(message(format_args!("line {}{wrong}", self.lines)));
+            }
         }
         stdout
             .write_all(out.as_bytes())

@@ -16,10 +16,10 @@ pub fn skip_blanks(s: &[u8], from: usize) -> usize {
 
 // The part before the line feed and before a comment.
 fn before_comment(line: &[u8]) -> &[u8] {
-    let end = line.iter().position(|b| *b == b'\n');
-    let text = &line[..end.unwrap_or(line.len())];
-    let comment = text.windows(2).position(|pair| matches!(pair, b"//"));
-    &text[..comment.unwrap_or(text.len())]
+    let comment = line.windows(2).position(|pair| matches!(pair, b"//"));
+    let text = &line[..comment.unwrap_or(line.len())];
+    let end = text.iter().position(|b| *b == b'\n');
+    &text[..end.unwrap_or(text.len())]
 }
 
 // The text from a place on, without blanks around it and without a comment.

@@ -17,6 +17,8 @@ const ROOM: usize = 393216;
 // Nothing says that the input ends, so the loop counts the pieces: 2^55 bytes are no limit.
 const PIECES: usize = 1099511627776;
 
+const DIGITS: &[u8; 16] = b"0123456789ABCDEF";
+
 // Why it stops before the input's end, or what the input leaves over.
 #[derive(Clone, Copy)]
 enum Failure {
@@ -50,8 +52,22 @@ fn line_length(op: Op, room: &mut [u8]) -> usize {
     line_writer::write_line(op, room).unwrap_or(0)
 }
 
+// The eight digits of a word.
+fn hex_of(word: u32) -> [u8; 8] {
+    let mut digits = [0; 8];
+    let mut rest = word;
+    for digit in digits.iter_mut().rev() {
+        *digit = DIGITS[(rest % 16) as usize];
+        rest >>= 4;
+    }
+    digits
+}
+
 fn put_other(out: &mut Text<ROOM>, word: u32, why: &str) {
-    let _ = write!(out, ".inst 0x{word:08X} // {why}");
+    out.push_bytes(b".inst 0x");
+    out.push_bytes(&hex_of(word));
+    out.push_bytes(b" // ");
+    out.push_bytes(why.as_bytes());
 }
 
 fn put_instruction(out: &mut Text<ROOM>, word: u32) {

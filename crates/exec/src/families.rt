@@ -90,8 +90,12 @@ pub fn elements<const MINUS: bool>(
 {
     match size {
         Size::B => false,
-        Size::H => vector::element::elements::<i16, 8, MINUS>(file, at, index, form),
-        Size::S => vector::element::elements::<i32, 4, MINUS>(file, at, index, form),
+        Size::H => vector::element::elements::<i16, 8, MINUS>(
+            file, at.dest, at.first, at.second, index, form,
+        ),
+        Size::S => vector::element::elements::<i32, 4, MINUS>(
+            file, at.dest, at.first, at.second, index, form,
+        ),
         Size::D => false,
     }
 }

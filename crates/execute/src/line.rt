@@ -102,17 +102,17 @@ impl<'a> Line<'a> {
     pub fn code(&mut self) -> Result<u32, Fault<'static>> {
         let word = self.word();
         let digits = word.strip_prefix(b"0x").unwrap_or(word);
-        if !digits.iter().all(|b| b.is_ascii_hexdigit()) {
-            return Err(Fault::NotHexadecimal);
+        let mut value = 0;
+        for b in digits {
+            value = value << 4 | u32::from(digit(*b)?);
         }
         if digits.is_empty() {
             return Err(Fault::WordMissing);
         }
-        let text = str::from_utf8(digits).map_err(|_| Fault::NotHexadecimal)?;
         if digits.len() > 8 {
             return Err(Fault::WordTooLong);
         }
-        u32::from_str_radix(text, 16).map_err(|_| Fault::WordTooLong)
+        Ok(value)
     }
 
     // Takes a byte of two digits; none where the line is over.

@@ -66,6 +66,16 @@ fn read<'a>(mut stdin: Stdin, buffer: &'a mut [u8]) -> Result<&'a [u8], Failure<
     Ok(&buffer[..length])
 }
 
+// In one piece, so that a reader of its first line alone closes the pipe behind all of it.
+#[inline(never)]
+fn write_report(report: &Report, stdout: &impl Print) -> Result<(), Failure<'static>> {
+    let mut out = Text::<OUT>::new();
+    let _ = write!(out, "{report}");
+    stdout
+        .write_all(out.as_bytes())
+        .map_err(|_| Failure::Unwritten)
+}
+
 fn execute<'a>(stdin: Stdin, stdout: &impl Print, buffer: &'a mut [u8]) -> Result<(), Failure<'a>> {
     let mut request = read_text(read(stdin, buffer)?)?;
     let before = request.file;
@@ -80,12 +90,7 @@ fn execute<'a>(stdin: Stdin, stdout: &impl Print, buffer: &'a mut [u8]) -> Resul
         before: &before,
         ran,
     };
-    // In one piece, so that a reader of its first line alone closes the pipe behind all of it.
-    let mut out = Text::<OUT>::new();
-    let _ = write!(out, "{report}");
-    stdout
-        .write_all(out.as_bytes())
-        .map_err(|_| Failure::Unwritten)
+    write_report(&report, stdout)
 }
 
 fn main(rt: HostRuntime) {

@@ -53,16 +53,14 @@ fn size_of(name: &[u8]) -> Result<Size, Fault<'static>> {
 
 impl Request {
     // What a text asks for that gives its length alone.
-    fn new(mut line: Line) -> Result<Self, Fault<'static>> {
-        let bits = line.number(MOST_BITS, Fault::LengthTooLarge)?;
-        line.end()?;
-        Ok(Request {
+    fn new(bits: usize) -> Self {
+        Request {
             file: File::new(bits),
             qc: false,
             words: ArrayVec::new(),
             lanes: None,
             shown: 0,
-        })
+        }
     }
 
     pub fn is_shown(&self, n: usize) -> bool {
@@ -128,6 +126,14 @@ impl Request {
     }
 }
 
+// Not part of `read_line`, which would then clear room for a request at each line of the text.
+fn read_length(mut line: Line, request: &mut Option<Request>) -> Result<(), Fault<'static>> {
+    let bits = line.number(MOST_BITS, Fault::LengthTooLarge)?;
+    line.end()?;
+    *request = Some(Request::new(bits));
+    Ok(())
+}
+
 // Takes up a line in what the lines before it ask for: nothing, before the length.
 fn read_line<'a>(mut line: Line<'a>, request: &mut Option<Request>) -> Result<(), Fault<'a>> {
     if line.is_over() {
@@ -136,15 +142,14 @@ fn read_line<'a>(mut line: Line<'a>, request: &mut Option<Request>) -> Result<()
     let statement = statement_of(line.word())?;
     match (statement, request.as_mut()) {
         (_, Some(request)) => request.read(statement, line),
-        (Statement::Length, None) => {
-            *request = Some(Request::new(line)?);
-            Ok(())
-        }
+        (Statement::Length, None) => read_length(line, request),
         (_, None) => Err(Fault::LengthNotFirst),
     }
 }
 
-// What the text asks for. One that ends with no length is wrong in its last line; an empty one has one line.
+// What the text asks for. One that ends with no length is wrong in its last line; an empty one has one line. Never inlined,
+// so that the report may lie on the stack where the lines were read.
+#[inline(never)]
 pub fn read_text(text: &[u8]) -> Result<Request, Refusal<'_>> {
     let mut request = None;
     let mut number = 0usize;

@@ -51,29 +51,32 @@ fn hex_of(word: u32) -> [u8; 9]
     ]
 }
 
-fn family_name(op: Op) -> &'static [u8]
-    ensures { result.now ≡ ascii (operation_name op) }
+// A family's name: each arm puts a text of its own, whose length the compiler knows.
+fn put_family(out: &mut [u8], at: usize, op: Op) -> usize
+    requires { at + 11 ≤ length out.old }
+    ensures { Wrote out.old at (ascii (operation_name op)) result out.new }
 {
     match op {
-        Op::Cadd(_) => b"CADD",
-        Op::Sqcadd(_) => b"SQCADD",
-        Op::Cmla(_) => b"CMLA",
-        Op::CmlaIndexed(_) => b"CMLA-I",
-        Op::Sqrdcmlah(_) => b"SQRDCMLAH",
-        Op::SqrdcmlahIndexed(_) => b"SQRDCMLAH-I",
-        Op::Sqrdmlah(_) => b"SQRDMLAH",
-        Op::Sqrdmlsh(_) => b"SQRDMLSH",
-        Op::Sqdmulh(_) => b"SQDMULH",
+        Op::Cadd(_) => put_text(out, at, b"CADD"),
+        Op::Sqcadd(_) => put_text(out, at, b"SQCADD"),
+        Op::Cmla(_) => put_text(out, at, b"CMLA"),
+        Op::CmlaIndexed(_) => put_text(out, at, b"CMLA-I"),
+        Op::Sqrdcmlah(_) => put_text(out, at, b"SQRDCMLAH"),
+        Op::SqrdcmlahIndexed(_) => put_text(out, at, b"SQRDCMLAH-I"),
+        Op::Sqrdmlah(_) => put_text(out, at, b"SQRDMLAH"),
+        Op::Sqrdmlsh(_) => put_text(out, at, b"SQRDMLSH"),
+        Op::Sqdmulh(_) => put_text(out, at, b"SQDMULH"),
     }
 }
 
-fn name(decoded: Decoded) -> &'static [u8]
-    ensures { result.now ≡ name_of decoded }
+fn put_name(out: &mut [u8], at: usize, decoded: Decoded) -> usize
+    requires { at + 11 ≤ length out.old }
+    ensures { Wrote out.old at (name_of decoded) result out.new }
 {
     match decoded {
-        Decoded::Operation(op) => family_name(op),
-        Decoded::Reserved => b"RESERVED",
-        Decoded::Outside => b"OUTSIDE",
+        Decoded::Operation(op) => put_family(out, at, op),
+        Decoded::Reserved => put_text(out, at, b"RESERVED"),
+        Decoded::Outside => put_text(out, at, b"OUTSIDE"),
     }
 }
 
@@ -83,7 +86,7 @@ fn put_line(out: &mut [u8], at: usize, word: u32) -> usize
 {
     let hex = hex_of(word);
     let named = put_text(out, at, &hex);
-    let end = put_text(out, named, name(codec::decode(word)));
+    let end = put_name(out, named, codec::decode(word));
     put_text(out, end, b"\n")
 }
 

@@ -156,7 +156,8 @@ fn go_on<R: Read>(
     take(&held[..so_far], at, state, lines)
 }
 
-// The lines of a trace.
+// The lines of a trace. Not put in where it is called, so that a trace that is taken whole needs no room on the stack for pieces and a state.
+#[inline(never)]
 pub fn tell_pieces<R: Read + Drop>(mut input: R, lines: &mut Lines) -> Result<(), Failure> {
     let mut held = [0u8; PART];
     let mut state = State::new();

@@ -32,18 +32,26 @@ fn touch<L: ByElement<K>, const K: usize>(
     s.clamped
 }
 
-// SQRDMLAH, or SQRDMLSH with MINUS. Answers whether a lane was clamped. It is not put in where it is called, so that the loop over the words stays short.
+// SQRDMLAH, or SQRDMLSH with MINUS. Answers whether a lane was clamped. It is not put in where it is called, so that the loop over the words stays short;
+// so the places are handed over by themselves: `Operands` would go through memory at each call.
 #[inline(never)]
 pub fn elements<L: ByElement<K>, const K: usize, const MINUS: bool>(
     file: &mut [u8],
-    at: Operands,
+    dest: usize,
+    first: usize,
+    second: usize,
     index: usize,
     form: Form,
 ) -> bool
-    requires within { Within (length file.old) at.dest at.first at.second }
+    requires within { Within (length file.old) dest first second }
     requires index_bound { index < K }
-    ensures { Touched 16 (lane_bytes form L.size index MINUS) (lane_clamps form L.size index MINUS) file.old at.dest at.first at.second file.new result }
+    ensures { Touched 16 (lane_bytes form L.size index MINUS) (lane_clamps form L.size index MINUS) file.old dest first second file.new result }
 {
+    let at = Operands {
+        dest,
+        first,
+        second,
+    };
     match form {
         Form::Scalar => touch::<L, K>(file, at, index, Form::Scalar, MINUS),
         Form::Vector64 => touch::<L, K>(file, at, index, Form::Vector64, MINUS),
