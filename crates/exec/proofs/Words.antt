@@ -101,3 +101,19 @@ module _ (L : ℕ) (words : List ℕ) (s₀ : isa.State) (file : List ℕ) (s : 
   pub words-end : length words ≤ i → (r : Ran) → r ≡ ran_of Ending.Done s →
       record { answer = r; file = file } ≡ isa.run L words s₀
   words-end h r q = (λ t. record { answer = q t; file = file }) ∙ going-ends L words s₀ (state_of file s) i g h
+
+-- ---- the loop over any list of words that is the program's
+
+module _ (ws words : List ℕ) (i : ℕ) where
+  pub same-more : ws ≡ words → i < length ws → i < length words
+  same-more same h = subst (λ (v : List ℕ). i < length v) same h
+
+  pub same-end : ws ≡ words → length ws ≤ i → length words ≤ i
+  same-end same h = subst (λ (v : List ℕ). length v ≤ i) same h
+
+  pub same-step : (l L : ℕ) (s : Carried) (file : List ℕ) (r : Result Carried Ran) (after : List ℕ) → ws ≡ words → l ≡ L →
+      (r ≡ stepped_of (decode_of (get_or ws i 0)) l file s) × (after ≡ file_after (decode_of (get_or ws i 0)) l file) →
+      (r ≡ stepped_of (decode_of (get_or words i 0)) L file s) × (after ≡ file_after (decode_of (get_or words i 0)) L file)
+  same-step l L s file r after same e w =
+      subst (λ (v : List ℕ). (r ≡ stepped_of (decode_of (get_or v i 0)) L file s) × (after ≡ file_after (decode_of (get_or v i 0)) L file)) same
+      (subst (λ (k : ℕ). (r ≡ stepped_of (decode_of (get_or ws i 0)) k file s) × (after ≡ file_after (decode_of (get_or ws i 0)) k file)) e w)

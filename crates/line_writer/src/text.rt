@@ -15,7 +15,7 @@ pub struct Text {
 }
 
 impl Text {
-    pub fn new() -> Self
+    pub(crate) fn new() -> Self
         ensures { take result.size result.bytes ≡ [] }
     {
         Text {
@@ -24,7 +24,7 @@ impl Text {
         }
     }
 
-    pub fn push(&mut self, c: u8)
+    pub(crate) fn push(&mut self, c: u8)
         requires { length (take self.old.size self.old.bytes) < line_max }
         ensures { take self.new.size self.new.bytes ≡ take self.old.size self.old.bytes ++ c ∷ [] }
     {
@@ -33,7 +33,7 @@ impl Text {
     }
 
     // All three bytes that a text may have are stored; those past its end are overwritten.
-    pub fn push_text(&mut self, packed: u32)
+    pub(crate) fn push_text(&mut self, packed: u32)
         requires { (packed / 16777216 ≤ 3) × (length (take self.old.size self.old.bytes) + length (text_bytes packed) ≤ line_max) }
         ensures { take self.new.size self.new.bytes ≡ take self.old.size self.old.bytes ++ text_bytes packed }
     {
@@ -43,7 +43,7 @@ impl Text {
         self.size += (packed / 16777216) as usize;
     }
 
-    pub fn as_slice(&self) -> &[u8]
+    pub(crate) fn as_slice(&self) -> &[u8]
         ensures { result.now ≡ take self.now.size self.now.bytes }
     {
         &self.bytes[..self.size]

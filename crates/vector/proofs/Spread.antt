@@ -1,4 +1,4 @@
--- The segments at one place of each register of a group. `worked-none`, `worked_more`: worked one register after the other. `filed-none`, `filed_more`, `filed-at`: stored so.
+-- The segments at one place of each register of a group. `worked-none`, `worked_more`, `worked-by`: worked one register after the other. `filed-none`, `filed_more`, `filed-at`: stored so.
 -- `group_stored`: worked and then stored, they are what a group's loop wants. `spread-in`, `spread-next`: where one lies, and the next. Assumes nothing.
 use mathlib.Core.Path.{◌≡◌, refl, sym, ap, subst, ◌∙◌}
 use Prim.Native.Nat.{ℕ, ◌+◌, ◌-◌, ◌*◌, ◌/◌, ◌%◌, ◌<◌, ◌≤◌}
@@ -59,6 +59,12 @@ module _ (at w : ℕ) where
           let other : s ≢ r = eqb-false s r e in
           ap (λ s. bytes_of s i) (get_or-set_other new r s made [] other) ∙ so_far.makes s i (omega arith) l);
     }
+
+    -- the same with any second source that is z
+    pub worked-by : BySegment rule → (r place : ℕ) (new : List (List ℕ)) (x y made : List ℕ) → r < length new → place ≡ at + r * w → Loaded file place 16 x → y ≡ z →
+        ((i : ℕ) → i < 16 → bytes_of made i ≡ rule (bytes_of x) (bytes_of y) i) → Worked rule file at w r z new → Worked rule file at w (r + 1) z (set new r made)
+    worked-by by r place new x y made inside here loaded same result =
+        worked_more by r place new x made inside here loaded (subst (λ s. (i : ℕ) → i < 16 → bytes_of made i ≡ rule (bytes_of x) (bytes_of s) i) same result)
 
   module _ (file : List ℕ) (new : List (List ℕ)) where
     pub filed-none : Filed file at w 0 new file

@@ -6,7 +6,8 @@ use Rattle.integer.specs.Lane.{doubled_high}
 use Rattle.isa.specs.Meaning.{lane_wise}
 use Rattle.isa.specs.Register.{bits}
 use Rattle.regfile.proofs.Group.{lane-wise}
-use Rattle.vector.proofs.Spread.{next, worked_more}
+use Rattle.std.proofs.Common.{rules}
+use Rattle.vector.proofs.Spread.{next, worked-by}
 use Rattle.vector.proofs.group.worked.Goals as goal
 
 pub loop-r-preserved : goal.loop-r-preserved
@@ -18,6 +19,6 @@ loop-r-preserved g c =
     record {
       here = next a.at a.w i.r i.place i.invariant.here;
       sized = length-set i.new i.r c.sqdmulh.result ∙ i.invariant.sized;
-      so_far = worked_more a.at a.w (lane_wise g.L.Lane.size high) a.file.now a.z (lane-wise g.L.Lane.size high) i.r _ i.new c.read16.result c.sqdmulh.result
-          inside (omega (arith, i.invariant.here)) c.read16.ensures c.sqdmulh.ensures.at i.invariant.so_far;
+      so_far = worked-by a.at a.w (lane_wise g.L.Lane.size high) a.file.now a.z (lane-wise g.L.Lane.size high) i.r _ i.new c.read16.result _ c.sqdmulh.result
+          inside (omega (arith, i.invariant.here)) c.read16.ensures (search rules) c.sqdmulh.ensures.at i.invariant.so_far;
     }
